@@ -1,0 +1,17 @@
+-- What a memory answers, over its byte list and the fault of each position outside it.
+--   read-answer xs fault p   the byte at p, or the fault of p where the list does not reach it
+--   put-answer xs fault p    done, or the same fault
+use Prim.Native.Nat.{ℕ}
+use lib.Dec.{ltb}
+use lib.ListN.{length, getD}
+use mathlib.Core.Bool.{cond}
+use mathlib.Core.List.{List}
+use Rattle.memory.specs.declared.fault.MemoryFault.{MemoryFault}
+use Rattle.std.specs.declared.result.Result.{Result}
+use Rattle.std.specs.declared.result.Result.the-variants.{Ok, Err}
+
+abbrev pub read-answer : List ℕ → (ℕ → MemoryFault) → ℕ → Result ℕ MemoryFault
+read-answer xs fault p = cond (ltb p (length xs)) (Ok (getD xs p 0)) (Err (fault p))
+
+abbrev pub put-answer : List ℕ → (ℕ → MemoryFault) → ℕ → Result (Unit {0}) MemoryFault
+put-answer xs fault p = cond (ltb p (length xs)) (Ok tt) (Err (fault p))
