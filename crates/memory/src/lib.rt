@@ -1,3 +1,4 @@
+pub mod access;
 pub mod fault;
 pub mod interface;
 pub mod own;

@@ -1,0 +1,3 @@
+pub mod Amounts
+pub mod Lines
+pub mod Records

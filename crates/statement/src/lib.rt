@@ -1,0 +1,4 @@
+pub mod amount;
+pub mod lines;
+pub mod malformed;
+pub mod record;

@@ -1,0 +1,6 @@
+// A line that fits no kind.
+#[derive(Clone, Copy, PartialEq, Eq, Debug)]
+pub struct Malformed {
+    // The first index at which no lawful line goes on, or the line's length if it ends early.
+    pub at: usize,
+}
