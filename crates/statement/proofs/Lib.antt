@@ -1,2 +1,3 @@
 mod DigitSteps
 mod LineSteps
+pub mod Spans

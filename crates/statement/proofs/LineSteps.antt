@@ -2,13 +2,10 @@
 use mathlib.Core.Path.{_≡_, ap, sym, _∙_}
 use mathlib.Core.List.{List, [], _∷_, _++_, append-assoc}
 use mathlib.Core.Bool.{true, false}
-use mathlib.Core.Logic.{⊎-elim}
-use Prim.Native.Nat.{ℕ, _+_, _<_, _≤_, min}
-use native.Mathlib.Omega.{arith}
-use lib.ListN.{length, take, drop, getD}
-use lib.Seq.{take-all}
+use Prim.Native.Nat.{ℕ, _+_, _<_, _≤_}
+use lib.ListN.{length, drop, getD}
 use Rattle.std.proofs.shelf.Lists.{drop-more, drop-all, append-nil}
-use Rattle.std.proofs.shelf.Tests.{lt-ltb, le-ltb, eq-eqb, ne-eqb, cases-lt}
+use Rattle.std.proofs.shelf.Tests.{lt-ltb, le-ltb, eq-eqb, ne-eqb}
 use Rattle.statement.specs.Lines.{line-end, line, lines-from}
 use Rattle.statement.specs.declared.lines.Line.{Line}
 
@@ -25,11 +22,3 @@ module _ (found : List Line) (s p : ℕ) (xs : List ℕ) where
 
   pub all-ended : length xs ≤ p → p ≤ s → found ≡ found ++ lines-from s p (drop p xs)
   all-ended h e = sym (ap (λ ls. found ++ ls) (ap (lines-from s p) (drop-all p xs h) ∙ rw (le-ltb s p e)) ∙ append-nil found)
-
--- a part that was read as far as the text goes
-pub take-as-far : (i n : ℕ) (ys : List ℕ) → i ≡ min n (length ys) → take i ys ≡ take n ys
-take-as-far i n ys e =
-    ⊎-elim
-    (λ short. ap (λ k. take k ys) (omega arith))
-    (λ long. take-all i ys (omega arith) ∙ sym (take-all n ys (omega arith)))
-    (cases-lt n (length ys))

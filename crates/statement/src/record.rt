@@ -1,4 +1,4 @@
-ghost use Rattle.statement.specs.Records.{balance-of, behind-letter, record-of, worded-at};
+ghost use Rattle.statement.specs.Records.{balance-of, behind-letter, part-bytes, record-of, worded-at};
 ghost use mathlib.Core.Path.{_≡_};
 use crate::amount::parse_amount;
 use crate::amount::parse_semicolon;
@@ -76,4 +76,13 @@ pub fn parse_record(line: &[u8]) -> Result<Record, Malformed>
         [b'R', ..] => Ok(Record::Return(parse_behind_letter(line)?)),
         _ => Err(Malformed { at: 0 }),
     }
+}
+
+// The bytes of a part of the line, as far as the line has them.
+pub fn part_of(line: &[u8], part: Part) -> &[u8]
+    ensures { λ r. ⌜ now r ≡ part-bytes (now (line .entry)) part ⌝ }
+{
+    let start = part.start.min(line.len());
+    let length = part.length.min(line.len() - start);
+    &line[start..start + length]
 }
