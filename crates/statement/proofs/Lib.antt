@@ -1,3 +1,4 @@
 mod DigitSteps
+pub mod LineLaws
 mod LineSteps
 pub mod Spans

@@ -1,3 +1,4 @@
 pub mod Amounts
+pub mod LineLaw
 pub mod Lines
 pub mod Records

@@ -5,6 +5,8 @@
 --   balance-of xs       behind a letter: a semicolon and an amount, and nothing behind it
 --   behind-letter xs    behind a letter: a semicolon, an amount, a semicolon and a text
 --   record-of xs        what the statement line xs says, by its first letter
+--   if-ended l xs r     what was read of the line l with the text xs; where its end is missing, it goes wrong there
+--   ended-record l xs   what the statement line l with the text xs says, its end included
 use Prim.Native.Nat.{ℕ, _-_}
 use lib.Dec.{eqb}
 use lib.IntN.{ℤ}
@@ -14,6 +16,7 @@ use mathlib.Core.List.{List}
 use Rattle.std.specs.declared.result.Result.{Result}
 use Rattle.std.specs.declared.result.Result.the-variants.{Ok, Err}
 use Rattle.statement.specs.Amounts.{amount-at, semicolon-at, stands-at}
+use Rattle.statement.specs.declared.lines.Line.{Line}
 use Rattle.statement.specs.declared.malformed.Malformed.{Malformed}
 use Rattle.statement.specs.declared.record.Part.{Part}
 use Rattle.statement.specs.declared.record.Record.{Record}
@@ -50,3 +53,9 @@ record-of xs =
     (cond (stands-at xs 0 67) (and-then (behind-letter xs) (λ worded. Ok (Charge worded)))
     (cond (stands-at xs 0 82) (and-then (behind-letter xs) (λ worded. Ok (Return worded)))
     (Err (record { at = 0 })))))
+
+abbrev pub if-ended : {A : Type 0} → Line → List ℕ → Result A Malformed → Result A Malformed
+if-ended line text r = and-then r (λ said. cond (line .ended) (Ok said) (Err (record { at = length text })))
+
+abbrev pub ended-record : Line → List ℕ → Result Record Malformed
+ended-record line text = if-ended line text (record-of text)

@@ -1,4 +1,5 @@
 ghost use Prim.Native.Nat.{_-_, min};
+ghost use Rattle.statement.specs.LineLaw.{Cut-into-lines};
 ghost use Rattle.statement.specs.Lines.{lines-of, same-bytes, span-bytes};
 ghost use Rattle.std.specs.Of.Vec.{vec-items};
 ghost use Rattle.std.specs.Vec.{made};
@@ -39,7 +40,8 @@ pub struct Line {
 
 // All lines of the text, in their order.
 pub fn find_lines<M: Memory>(heap: Global, mem: &M) -> Result<Vec<Line>, AllocError>
-    ensures { λ r. ⌜ made r (λ lines. vec-items lines ≡ lines-of (bytes (now (mem .entry)))) ⌝ }
+    ensures answer { λ r. ⌜ made r (λ lines. vec-items lines ≡ lines-of (bytes (now (mem .entry)))) ⌝ }
+    ensures law { λ _. ⌜ Cut-into-lines (bytes (now (mem .entry))) (lines-of (bytes (now (mem .entry)))) ⌝ }
 {
     let mut lines = Vec::new(heap);
     let mut start = 0;

@@ -1,7 +1,9 @@
-ghost use Rattle.statement.specs.Records.{balance-of, behind-letter, part-bytes, record-of, worded-at};
+ghost use Rattle.statement.specs.Records.{balance-of, behind-letter, if-ended, part-bytes, record-of, worded-at};
+ghost use Rattle.std.specs.declared.result.Result.the-variants.{Ok};
 ghost use mathlib.Core.Path.{_≡_};
 use crate::amount::parse_amount;
 use crate::amount::parse_semicolon;
+use crate::lines::Line;
 use crate::malformed::Malformed;
 
 // A part of a line.
@@ -75,6 +77,17 @@ pub fn parse_record(line: &[u8]) -> Result<Record, Malformed>
         [b'C', ..] => Ok(Record::Charge(parse_behind_letter(line)?)),
         [b'R', ..] => Ok(Record::Return(parse_behind_letter(line)?)),
         _ => Err(Malformed { at: 0 }),
+    }
+}
+
+// Where the end of a line is missing, the line goes wrong there.
+pub fn check_ended(line: Line, text: &[u8]) -> Result<(), Malformed>
+    ensures { λ r. ⌜ r ≡ if-ended line (now (text .entry)) (Ok tt) ⌝ }
+{
+    if line.ended {
+        Ok(())
+    } else {
+        Err(Malformed { at: text.len() })
     }
 }
 

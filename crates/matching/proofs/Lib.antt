@@ -1,0 +1,3 @@
+mod FirstOpen
+mod LineTexts
+mod Turns
