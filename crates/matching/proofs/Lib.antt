@@ -1,3 +1,5 @@
 mod FirstOpen
+mod Judging
 mod LineTexts
+mod Reconciling
 mod Turns

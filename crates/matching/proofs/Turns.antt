@@ -15,7 +15,7 @@ use Rattle.matching.specs.declared.invoice.Invoice.{Invoice}
 module _ (xs ys : List ℕ) (k : ℕ) (is : List Invoice) (ls : List Line) where
   -- the line k of the lines ms that were found, with its text and what became of it
   module _ (ms : List Line) (found : ms ≡ ls) (d : Line) (h : k < length ms) (text : List ℕ) (read : text ≡ line-bytes xs (getD ms k d))
-    (o : Outcome) (js : List Invoice) (e : (o, js) ≡ judged ys k (getD ms k d) text is) where
+      (o : Outcome) (js : List Invoice) (e : (o, js) ≡ judged ys k (getD ms k d) text is) where
     turn : (o, js) ≡ judged ys k (getD ls k d) (line-bytes xs (getD ls k d)) is
     turn =
         e

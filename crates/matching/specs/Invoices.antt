@@ -23,9 +23,9 @@ unread = Unlawful (record { at = 0 })
 
 abbrev pub claim-of : Line → Worded → Claim
 claim-of line worded = record {
-    amount = worded .amount;
-    payee = record { start = line .span .start + worded .text .start; length = worded .text .length };
-  }
+  amount = worded .amount;
+  payee = record { start = line .span .start + worded .text .start; length = worded .text .length };
+}
 
 abbrev pub claimed : Line → Result Worded Malformed → Invoice
 claimed line (Ok worded) = Open (claim-of line worded)

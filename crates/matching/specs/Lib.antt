@@ -1,2 +1,3 @@
 pub mod Invoices
 pub mod Pairings
+pub mod Reconciliation

@@ -1,5 +1,6 @@
 ghost use Prim.Native.Nat.{ℕ, _<_};
 ghost use Rattle.matching.specs.Pairings.{asks-for, entries-of, first-open, judged, pairing, same-amount, settled-invoices};
+ghost use Rattle.matching.specs.Reconciliation.{Reconciled};
 ghost use Rattle.statement.specs.Records.{ended-record};
 ghost use Rattle.std.specs.Of.Vec.{vec-items};
 ghost use Rattle.std.specs.Slices.{found};
@@ -36,14 +37,20 @@ fn asks<M: Memory>(invoice: Invoice, mem: &M, payment: Worded, payee: &[u8]) -> 
     ensures { λ r. ⌜ r ≡ asks-for (bytes (now (mem .entry))) (payment .amount) (now (payee .entry)) invoice ⌝ }
 {
     match invoice {
-        Invoice::Open(claim) => same_amount(claim.amount, payment.amount) && holds(mem, claim.payee, payee),
+        Invoice::Open(claim) => same_amount(claim.amount, payment.amount)
+            && holds(mem, claim.payee, payee),
         Invoice::Settled(_, _) => false,
         Invoice::Unlawful(_) => false,
     }
 }
 
 // The index of the first open invoice that asks for a payment from this payee.
-fn find_open<M: Memory>(invoices: &[Invoice], mem: &M, payment: Worded, payee: &[u8]) -> Option<usize>
+fn find_open<M: Memory>(
+    invoices: &[Invoice],
+    mem: &M,
+    payment: Worded,
+    payee: &[u8],
+) -> Option<usize>
     ensures value { λ r. ⌜ r ≡ first-open (bytes (now (mem .entry))) (payment .amount) (now (payee .entry)) 0 (now (invoices .entry)) ⌝ }
     ensures inside { λ r. ⌜ found r (λ index. index < length (now (invoices .entry))) ⌝ }
 {
@@ -56,7 +63,13 @@ fn find_open<M: Memory>(invoices: &[Invoice], mem: &M, payment: Worded, payee: &
 }
 
 // Pairs a payment with its invoice, which is then settled, or leaves it unmatched.
-fn pair<M: Memory>(invoices: &mut Vec<Invoice>, mem: &M, line: usize, payment: Worded, payee: &[u8]) -> Outcome
+fn pair<M: Memory>(
+    invoices: &mut Vec<Invoice>,
+    mem: &M,
+    line: usize,
+    payment: Worded,
+    payee: &[u8],
+) -> Outcome
     ensures { λ r. ⌜ (r, vec-items (now (invoices .exit))) ≡ pairing line payment (vec-items (now (invoices .entry))) (first-open (bytes (now (mem .entry))) (payment .amount) (now (payee .entry)) 0 (vec-items (now (invoices .entry)))) ⌝ }
 {
     match find_open(invoices.as_slice(), mem, payment, payee) {
@@ -78,7 +91,13 @@ fn read_record(line: Line, text: &[u8]) -> Result<Record, Malformed>
 }
 
 // What becomes of the statement line of an index, with this text.
-fn judge<M: Memory>(index: usize, line: Line, text: &[u8], invoices: &mut Vec<Invoice>, mem: &M) -> Outcome
+fn judge<M: Memory>(
+    index: usize,
+    line: Line,
+    text: &[u8],
+    invoices: &mut Vec<Invoice>,
+    mem: &M,
+) -> Outcome
     ensures { λ r. ⌜ (r, vec-items (now (invoices .exit))) ≡ judged (bytes (now (mem .entry))) index line (now (text .entry)) (vec-items (now (invoices .entry))) ⌝ }
 {
     match read_record(line, text) {
@@ -91,10 +110,16 @@ fn judge<M: Memory>(index: usize, line: Line, text: &[u8], invoices: &mut Vec<In
     }
 }
 
-// Pairs the payments of a statement with the open invoices, line by line.
-pub fn reconcile<S: Memory, I: Memory>(heap: Global, statement: &S, open_items: &I) -> Result<Report, AllocError>
+// Pairs the payments of a statement with the open invoices, line by line: each with the first open invoice of equal
+// amount and payee. Every other line is logged.
+pub fn reconcile<S: Memory, I: Memory>(
+    heap: Global,
+    statement: &S,
+    open_items: &I,
+) -> Result<Report, AllocError>
     ensures entries { λ r. ⌜ made r (λ report. vec-items (report .entries) ≡ entries-of (S·Memory .bytes (now (statement .entry))) (I·Memory .bytes (now («open_items» .entry)))) ⌝ }
     ensures invoices { λ r. ⌜ made r (λ report. vec-items (report .invoices) ≡ settled-invoices (S·Memory .bytes (now (statement .entry))) (I·Memory .bytes (now («open_items» .entry)))) ⌝ }
+    ensures law { λ r. ⌜ made r (λ report. Reconciled (S·Memory .bytes (now (statement .entry))) (I·Memory .bytes (now («open_items» .entry))) (vec-items (report .entries)) (vec-items (report .invoices))) ⌝ }
 {
     let mut invoices = read_invoices(heap, open_items)?;
     let mut entries = Vec::new(heap);

@@ -1,11 +1,11 @@
 use native.Mathlib.Omega.{arith}
-use mathlib.Core.Path.{_≡_, ap, _∙_, subst, sym}
+use mathlib.Core.Path.{_≡_, ap, _∙_}
 use mathlib.Core.Bool.{false}
 use lib.ListN.{length}
 use Rattle.std.specs.Of.Vec.{vec-items}
 use Rattle.statement.specs.Lines.{lines-of}
 use Rattle.statement.specs.declared.lines.Line.{Line}
-use Rattle.matching.specs.Pairings.{judged}
+use Rattle.matching.proofs.Reconciling.{reconciled-as}
 use Rattle.matching.proofs.Turns.{entries-more, invoices-more, entries-all, invoices-all}
 use Rattle.matching.proofs.pairing.reconcile.Needs as need
 
@@ -36,7 +36,7 @@ returns g c =
     let is = vec-items (c .loop-index .invoices) in
     let found : c .deref-line-items .result .now ≡ lines-of xs = c .deref-line-items .ensures .value ∙ c .in-Continue-lines .ensures tt .answer in
     let all = ap length found in
-    record {
-      entries = entries-all xs ys k is (lines-of xs) (omega arith) (vec-items (c .loop-index .entries)) ∙ c .loop-index .inv .0;
-      invoices = invoices-all xs ys k is (lines-of xs) (omega arith) ∙ c .loop-index .inv .1;
-    }
+    let es = vec-items (c .loop-index .entries) in
+    let entries = entries-all xs ys k is (lines-of xs) (omega arith) es ∙ c .loop-index .inv .0 in
+    let invoices = invoices-all xs ys k is (lines-of xs) (omega arith) ∙ c .loop-index .inv .1 in
+    record { entries = entries; invoices = invoices; law = reconciled-as xs ys es is entries invoices }
