@@ -1,3 +1,4 @@
 pub mod Invoices
 pub mod Pairings
 pub mod Reconciliation
+pub mod Totals

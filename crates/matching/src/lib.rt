@@ -1,3 +1,4 @@
 pub mod entry;
 pub mod invoice;
 pub mod pairing;
+pub mod totals;

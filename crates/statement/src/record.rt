@@ -1,3 +1,4 @@
+ghost use Rattle.statement.specs.Grammar.{Read-right};
 ghost use Rattle.statement.specs.Records.{balance-of, behind-letter, if-ended, part-bytes, record-of, worded-at};
 ghost use Rattle.std.specs.declared.result.Result.the-variants.{Ok};
 ghost use mathlib.Core.Path.{_≡_};
@@ -69,7 +70,8 @@ fn parse_behind_letter(line: &[u8]) -> Result<Worded, Malformed>
 
 // What a line of a statement says: `B;amount`, or `P`, `C` or `R`, `;`, an amount, `;` and a text.
 pub fn parse_record(line: &[u8]) -> Result<Record, Malformed>
-    ensures { λ r. ⌜ r ≡ record-of (now (line .entry)) ⌝ }
+    ensures answer { λ r. ⌜ r ≡ record-of (now (line .entry)) ⌝ }
+    ensures law { λ _. ⌜ Read-right (now (line .entry)) ⌝ }
 {
     match line {
         [b'B', ..] => Ok(Record::Balance(parse_balance(line)?)),
