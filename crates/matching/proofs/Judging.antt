@@ -14,13 +14,13 @@ use Rattle.std.specs.declared.option.Option.{Option}
 use Rattle.std.specs.declared.option.Option.the-variants.{Some, None}
 use Rattle.std.specs.declared.result.Result.{Result}
 use Rattle.std.specs.declared.result.Result.the-variants.{Ok, Err}
-use Rattle.statement.specs.Lines.{span-bytes, same-bytes}
+use Rattle.lines.specs.Spans.{span-bytes, same-bytes}
 use Rattle.statement.specs.Records.{part-bytes}
 use Rattle.statement.specs.declared.malformed.Malformed.{Malformed}
 use Rattle.statement.specs.declared.record.Record.{Record}
 use Rattle.statement.specs.declared.record.Record.the-variants.{Balance, Payment, Charge, Return}
 use Rattle.statement.specs.declared.record.Worded.{Worded}
-use Rattle.statement.proofs.Spans.{equal-from-same}
+use Rattle.lines.proofs.Spans.{equal-from-same}
 use Rattle.matching.specs.Invoices.{settled-by, unread}
 use Rattle.matching.specs.Pairings.{same-amount, asks-for, first-open, pairing, judgement, judged-as}
 use Rattle.matching.specs.declared.entry.Outcome.{Outcome}

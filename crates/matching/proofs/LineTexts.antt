@@ -7,10 +7,10 @@ use lib.ListN.{length, getD, take}
 use Rattle.std.specs.shelf.Lists.{All}
 use Rattle.std.proofs.shelf.Elements.{all-getD}
 use Rattle.std.proofs.shelf.Lists.{map-more}
-use Rattle.statement.specs.Lines.{line-bytes, lines-of}
-use Rattle.statement.specs.declared.lines.Line.{Line}
-use Rattle.statement.proofs.LineLaws.{lines-inside}
-use Rattle.statement.proofs.Spans.{length-span}
+use Rattle.lines.specs.Lines.{line-bytes, lines-of}
+use Rattle.lines.specs.declared.line.Line.{Line}
+use Rattle.lines.proofs.LineLaws.{lines-inside}
+use Rattle.lines.proofs.Spans.{length-span}
 
 module _ (xs : List ℕ) (ls : List Line) (found : ls ≡ lines-of xs) (k : ℕ) (d : Line) (h : k < length ls) where
   found-inside : getD ls k d .span .start + getD ls k d .span .length ≤ length xs

@@ -5,9 +5,10 @@ use Prim.Native.Nat.{ℕ, zero, suc, _+_}
 use native.Mathlib.Omega.{arith}
 use lib.ListN.{getD}
 use Rattle.std.specs.declared.result.Result.the-variants.{Ok}
-use Rattle.statement.specs.Lines.{line-bytes, lines-of, span-bytes}
+use Rattle.lines.specs.Lines.{line-bytes, lines-of}
+use Rattle.lines.specs.Spans.{span-bytes}
 use Rattle.statement.specs.Records.{ended-record, part-bytes}
-use Rattle.statement.specs.declared.lines.Line.{Line}
+use Rattle.lines.specs.declared.line.Line.{Line}
 use Rattle.statement.specs.declared.record.Record.the-variants.{Payment}
 use Rattle.statement.specs.declared.record.Worded.{Worded}
 use Rattle.matching.specs.Invoices.{invoices-of, unread}

@@ -5,8 +5,8 @@ use Prim.Native.Nat.{ℕ, _+_, _<_, _≤_}
 use native.Mathlib.Omega.{arith}
 use lib.ListN.{length, drop, getD}
 use Rattle.std.proofs.shelf.Lists.{append-nil, drop-more, drop-all}
-use Rattle.statement.specs.Lines.{line-bytes}
-use Rattle.statement.specs.declared.lines.Line.{Line}
+use Rattle.lines.specs.Lines.{line-bytes}
+use Rattle.lines.specs.declared.line.Line.{Line}
 use Rattle.matching.specs.Pairings.{entries-from, invoices-after, judged}
 use Rattle.matching.specs.declared.entry.Entry.{Entry}
 use Rattle.matching.specs.declared.entry.Outcome.{Outcome}

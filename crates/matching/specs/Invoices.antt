@@ -9,9 +9,9 @@ use Prim.Native.Nat.{ℕ, _+_}
 use mathlib.Core.List.{List, map}
 use Rattle.std.specs.declared.result.Result.{Result}
 use Rattle.std.specs.declared.result.Result.the-variants.{Ok, Err}
-use Rattle.statement.specs.Lines.{line-bytes, lines-of}
+use Rattle.lines.specs.Lines.{line-bytes, lines-of}
 use Rattle.statement.specs.Records.{if-ended, worded-at}
-use Rattle.statement.specs.declared.lines.Line.{Line}
+use Rattle.lines.specs.declared.line.Line.{Line}
 use Rattle.statement.specs.declared.malformed.Malformed.{Malformed}
 use Rattle.statement.specs.declared.record.Worded.{Worded}
 use Rattle.matching.specs.declared.invoice.Claim.{Claim}

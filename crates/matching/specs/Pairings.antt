@@ -20,9 +20,10 @@ use Rattle.std.specs.declared.option.Option.{Option}
 use Rattle.std.specs.declared.option.Option.the-variants.{Some, None}
 use Rattle.std.specs.declared.result.Result.{Result}
 use Rattle.std.specs.declared.result.Result.the-variants.{Ok, Err}
-use Rattle.statement.specs.Lines.{line-bytes, lines-of, span-bytes, same-bytes}
+use Rattle.lines.specs.Lines.{line-bytes, lines-of}
+use Rattle.lines.specs.Spans.{span-bytes, same-bytes}
 use Rattle.statement.specs.Records.{ended-record, part-bytes}
-use Rattle.statement.specs.declared.lines.Line.{Line}
+use Rattle.lines.specs.declared.line.Line.{Line}
 use Rattle.statement.specs.declared.malformed.Malformed.{Malformed}
 use Rattle.statement.specs.declared.record.Record.{Record}
 use Rattle.statement.specs.declared.record.Record.the-variants.{Balance, Payment, Charge, Return}

@@ -1,5 +1,5 @@
 use crate::invoice::Invoice;
-use statement::lines::Line;
+use lines::line::Line;
 use statement::malformed::Malformed;
 use statement::record::Record;
 use statement::record::Worded;

@@ -6,14 +6,14 @@ use crate::entry::Outcome;
 use statement::record::Record;
 
 // How many lines there are of a kind, and the sum of their amounts.
-#[derive(Clone, Copy, PartialEq, Eq, Debug)]
+#[derive(Clone, Copy)]
 pub struct Total {
     pub lines: u64,
     pub cents: i128,
 }
 
 // What the lines of a statement come to.
-#[derive(Clone, Copy, PartialEq, Eq, Debug)]
+#[derive(Clone, Copy)]
 pub struct Totals {
     pub paired: Total,
     // Payments, charges and returns that were logged.

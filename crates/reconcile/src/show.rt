@@ -1,5 +1,6 @@
 use crate::texts::amount;
 use crate::texts::quoted;
+use lines::span::read_span;
 use matching::entry::Entry;
 use matching::entry::Outcome;
 use matching::entry::Report;
@@ -8,14 +9,18 @@ use matching::invoice::Invoice;
 use matching::totals::Total;
 use matching::totals::add_up;
 use memory::interface::Memory;
-use statement::lines::read_span;
 use statement::record::Record;
 use statement::record::Worded;
 use statement::record::part_of;
 use std::io;
 
 // The log of what stayed unmatched, the pairs, the totals and what is still open.
-pub fn report<S: Memory, I: Memory>(rt: &LibcRuntime, statement: &S, open_items: &I, report: &Report) -> io::Result<()> {
+pub fn report<S: Memory, I: Memory>(
+    rt: &LibcRuntime,
+    statement: &S,
+    open_items: &I,
+    report: &Report,
+) -> io::Result<()> {
     let lines = report.entries.len();
     let invoices = report.invoices.len();
     println!(rt, "Statement of {lines} lines, {invoices} invoices")?;
@@ -26,7 +31,10 @@ pub fn report<S: Memory, I: Memory>(rt: &LibcRuntime, statement: &S, open_items:
 }
 
 fn log<S: Memory>(rt: &LibcRuntime, statement: &S, entries: &[Entry]) -> io::Result<()> {
-    println!(rt, "\nLogged\n line  position  length  kind             amount  text")?;
+    println!(
+        rt,
+        "\nLogged\n line  position  length  kind             amount  text"
+    )?;
     for (index, entry) in entries.iter().enumerate() {
         let number = index.saturating_add(1);
         let text = read_span(rt.alloc(), statement, entry.line.span)?;
@@ -41,7 +49,10 @@ fn log<S: Memory>(rt: &LibcRuntime, statement: &S, entries: &[Entry]) -> io::Res
             Outcome::Unreadable(malformed) => {
                 let at = malformed.at;
                 let line = quoted(rt.alloc(), text.as_slice())?;
-                println!(rt, "{number:>5}  {start:>8}  {length:>6}  unreadable, wrong at {at:>2}  {line}")?;
+                println!(
+                    rt,
+                    "{number:>5}  {start:>8}  {length:>6}  unreadable, wrong at {at:>2}  {line}"
+                )?;
             }
         }
     }
@@ -80,7 +91,12 @@ fn pairs<I: Memory>(rt: &LibcRuntime, open_items: &I, report: &Report) -> io::Re
     Ok(())
 }
 
-fn claim<I: Memory>(rt: &LibcRuntime, open_items: &I, index: usize, claimed: Claim) -> io::Result<()> {
+fn claim<I: Memory>(
+    rt: &LibcRuntime,
+    open_items: &I,
+    index: usize,
+    claimed: Claim,
+) -> io::Result<()> {
     let number = index.saturating_add(1);
     let cents = amount(rt.alloc(), claimed.amount as i128)?;
     let payee = read_span(rt.alloc(), open_items, claimed.payee)?;

@@ -1,5 +1,3 @@
 pub mod Amounts
 pub mod Grammar
-pub mod LineLaw
-pub mod Lines
 pub mod Records

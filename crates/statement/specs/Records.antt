@@ -16,7 +16,7 @@ use mathlib.Core.List.{List}
 use Rattle.std.specs.declared.result.Result.{Result}
 use Rattle.std.specs.declared.result.Result.the-variants.{Ok, Err}
 use Rattle.statement.specs.Amounts.{amount-at, semicolon-at, stands-at}
-use Rattle.statement.specs.declared.lines.Line.{Line}
+use Rattle.lines.specs.declared.line.Line.{Line}
 use Rattle.statement.specs.declared.malformed.Malformed.{Malformed}
 use Rattle.statement.specs.declared.record.Part.{Part}
 use Rattle.statement.specs.declared.record.Record.{Record}

@@ -8,7 +8,7 @@ use crate::malformed::Malformed;
 const MOST_DIGITS: usize = 12;
 
 // An amount that was read out of a line.
-#[derive(Clone, Copy, PartialEq, Eq, Debug)]
+#[derive(Clone, Copy)]
 pub struct Amount {
     pub cents: i64,
     // The index behind its last digit.

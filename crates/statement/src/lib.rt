@@ -1,4 +1,3 @@
 pub mod amount;
-pub mod lines;
 pub mod malformed;
 pub mod record;

@@ -4,18 +4,18 @@ ghost use Rattle.std.specs.declared.result.Result.the-variants.{Ok};
 ghost use mathlib.Core.Path.{_≡_};
 use crate::amount::parse_amount;
 use crate::amount::parse_semicolon;
-use crate::lines::Line;
 use crate::malformed::Malformed;
+use lines::line::Line;
 
 // A part of a line.
-#[derive(Clone, Copy, PartialEq, Eq, Debug)]
+#[derive(Clone, Copy)]
 pub struct Part {
     pub start: usize,
     pub length: usize,
 }
 
 // An amount, a semicolon and a text, as payments and invoices have them.
-#[derive(Clone, Copy, PartialEq, Eq, Debug)]
+#[derive(Clone, Copy)]
 pub struct Worded {
     pub amount: i64,
     // Everything behind the semicolon, empty or not.
@@ -23,7 +23,7 @@ pub struct Worded {
 }
 
 // What a line of a statement says.
-#[derive(Clone, Copy, PartialEq, Eq, Debug)]
+#[derive(Clone, Copy)]
 pub enum Record {
     Balance(i64),
     Payment(Worded),

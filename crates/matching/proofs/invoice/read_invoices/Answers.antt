@@ -5,8 +5,8 @@ use mathlib.Core.List.{map}
 use lib.ListN.{length, getD}
 use Rattle.std.specs.Of.Vec.{vec-items}
 use lib.Seq.{take-all}
-use Rattle.statement.specs.Lines.{line-bytes, lines-of}
-use Rattle.statement.specs.declared.lines.Line.{Line}
+use Rattle.lines.specs.Lines.{line-bytes, lines-of}
+use Rattle.lines.specs.declared.line.Line.{Line}
 use Rattle.matching.specs.Invoices.{invoice-of}
 use Rattle.matching.proofs.LineTexts.{found-whole, found-short, mapped-more}
 use Rattle.matching.proofs.invoice.read_invoices.Needs as need

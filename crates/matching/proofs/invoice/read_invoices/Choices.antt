@@ -2,7 +2,7 @@ use mathlib.Core.Path.{_≡_}
 use mathlib.Core.List.{map}
 use lib.ListN.{take}
 use Rattle.std.specs.Of.Vec.{vec-items}
-use Rattle.statement.specs.Lines.{line-bytes, lines-of}
+use Rattle.lines.specs.Lines.{line-bytes, lines-of}
 use Rattle.matching.specs.Invoices.{invoice-of}
 use Rattle.matching.proofs.invoice.read_invoices.Given as given
 

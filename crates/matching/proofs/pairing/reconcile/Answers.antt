@@ -3,8 +3,8 @@ use mathlib.Core.Path.{_≡_, ap, _∙_}
 use mathlib.Core.Bool.{false}
 use lib.ListN.{length}
 use Rattle.std.specs.Of.Vec.{vec-items}
-use Rattle.statement.specs.Lines.{lines-of}
-use Rattle.statement.specs.declared.lines.Line.{Line}
+use Rattle.lines.specs.Lines.{lines-of}
+use Rattle.lines.specs.declared.line.Line.{Line}
 use Rattle.matching.proofs.Reconciling.{reconciled-as}
 use Rattle.matching.proofs.Turns.{entries-more, invoices-more, entries-all, invoices-all}
 use Rattle.matching.proofs.pairing.reconcile.Needs as need

@@ -2,7 +2,7 @@ use mathlib.Core.Path.{_≡_}
 use mathlib.Core.List.{_++_}
 use lib.ListN.{drop}
 use Rattle.std.specs.Of.Vec.{vec-items}
-use Rattle.statement.specs.Lines.{lines-of}
+use Rattle.lines.specs.Lines.{lines-of}
 use Rattle.matching.specs.Pairings.{entries-from, entries-of, invoices-after, settled-invoices}
 use Rattle.matching.proofs.pairing.reconcile.Given as given
 

@@ -1,7 +1,7 @@
 use native.Mathlib.Omega.{arith}
 use mathlib.Core.Path.{ap, _∙_}
 use lib.ListN.{take, drop}
-use Rattle.statement.proofs.Spans.{cut-to-list}
+use Rattle.lines.proofs.Spans.{cut-to-list}
 use Rattle.statement.proofs.record.part_of.Needs as need
 
 pub returns : need.returns

@@ -3,8 +3,8 @@ use mathlib.Core.List.{_++_}
 use Prim.Native.Nat.{_≤_}
 use lib.ListN.{drop}
 use Rattle.std.specs.Of.Vec.{vec-items}
-use Rattle.statement.specs.Lines.{lines-from, lines-of}
-use Rattle.statement.proofs.lines.find_lines.Given as given
+use Rattle.lines.specs.Lines.{lines-from, lines-of}
+use Rattle.lines.proofs.line.find_lines.Given as given
 
 -- what is left of the text gives the lines that are still to come
 abbrev pub Inv-loop-position : given.InvT-loop-position

@@ -10,8 +10,8 @@ use mathlib.Core.Bool.{true}
 use mathlib.Core.List.{List}
 use mathlib.Core.Path.{_≡_}
 use Rattle.std.specs.shelf.Lists.{All, joined}
-use Rattle.statement.specs.Lines.{line-end, line-bytes, with-end}
-use Rattle.statement.specs.declared.lines.Line.{Line}
+use Rattle.lines.specs.Lines.{line-end, line-bytes, with-end}
+use Rattle.lines.specs.declared.line.Line.{Line}
 
 pub record Cut-into-lines (xs : List ℕ) (ls : List Line) : Type 0 where
   pub rejoined : joined (with-end xs) ls ≡ xs

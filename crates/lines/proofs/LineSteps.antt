@@ -6,8 +6,8 @@ use Prim.Native.Nat.{ℕ, _+_, _<_, _≤_}
 use lib.ListN.{length, drop, getD}
 use Rattle.std.proofs.shelf.Lists.{drop-more, drop-all, append-nil}
 use Rattle.std.proofs.shelf.Tests.{lt-ltb, le-ltb, eq-eqb, ne-eqb}
-use Rattle.statement.specs.Lines.{line-end, line, lines-from}
-use Rattle.statement.specs.declared.lines.Line.{Line}
+use Rattle.lines.specs.Lines.{line-end, line, lines-from}
+use Rattle.lines.specs.declared.line.Line.{Line}
 
 module _ (found : List Line) (s p : ℕ) (xs : List ℕ) where
   pub at-line-end : p < length xs → getD xs p 0 ≡ line-end → (found ++ line s p true ∷ []) ++ lines-from (p + 1) (p + 1) (drop (p + 1) xs) ≡ found ++ lines-from s p (drop p xs)

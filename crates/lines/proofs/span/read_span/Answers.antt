@@ -1,9 +1,9 @@
 use native.Mathlib.Omega.{arith}
 use lib.Seq.{take-all}
 use Rattle.std.proofs.shelf.Lists.{take-more}
-use Rattle.statement.specs.Lines.{span-bytes}
-use Rattle.statement.proofs.Spans.{length-span, getD-span}
-use Rattle.statement.proofs.lines.read_span.Needs as need
+use Rattle.lines.specs.Spans.{span-bytes}
+use Rattle.lines.proofs.Spans.{length-span, getD-span}
+use Rattle.lines.proofs.span.read_span.Needs as need
 
 pub loop-offset-again : need.loop-offset-again
 loop-offset-again g c =

@@ -10,8 +10,8 @@ use lib.ListN.{length, take, drop, getD, length-take, length-drop}
 use lib.Seq.{getD-take, getD-drop, take-all}
 use Rattle.std.proofs.shelf.Lists.{nil-from-length}
 use Rattle.std.proofs.shelf.Tests.{eqb-true, eq-eqb, and-parts, and-from, cases-bool, cases-lt}
-use Rattle.statement.specs.Lines.{span-bytes, same-bytes}
-use Rattle.statement.specs.declared.lines.Span.{Span}
+use Rattle.lines.specs.Spans.{span-bytes, same-bytes}
+use Rattle.lines.specs.declared.span.Span.{Span}
 
 module _ (xs : List ℕ) (s : Span) where
   pub length-span : length (span-bytes xs s) ≡ min (s .length) (length xs - s .start)

@@ -4,10 +4,10 @@ use mathlib.Core.Path.{_≡_, sym, _∙_}
 use mathlib.Core.Logic.{_≢_}
 use lib.ListN.{length, getD}
 use Rattle.std.specs.Of.Vec.{vec-items}
-use Rattle.statement.specs.Lines.{line-end}
-use Rattle.statement.proofs.LineLaws.{cut-into-lines}
-use Rattle.statement.proofs.LineSteps.{at-line-end, inside-line, unended, all-ended}
-use Rattle.statement.proofs.lines.find_lines.Needs as need
+use Rattle.lines.specs.Lines.{line-end}
+use Rattle.lines.proofs.LineLaws.{cut-into-lines}
+use Rattle.lines.proofs.LineSteps.{at-line-end, inside-line, unended, all-ended}
+use Rattle.lines.proofs.line.find_lines.Needs as need
 
 pub loop-position-again : need.loop-position-again
 loop-position-again g c =

@@ -10,9 +10,9 @@ use Rattle.std.specs.shelf.Lists.{All, joined}
 use Rattle.std.proofs.shelf.Elements.{all-more}
 use Rattle.std.proofs.shelf.Lists.{append-nil, append-assoc, take-append-drop, take-all, drop-drop, drop-more, drop-all, getD-drop}
 use Rattle.std.proofs.shelf.Tests.{cond-both, eqb-true, eqb-false, ltb-false}
-use Rattle.statement.specs.LineLaw.{Cut-into-lines}
-use Rattle.statement.specs.Lines.{line-end, line, lines-from, lines-of, line-bytes, with-end}
-use Rattle.statement.specs.declared.lines.Line.{Line}
+use Rattle.lines.specs.LineLaw.{Cut-into-lines}
+use Rattle.lines.specs.Lines.{line-end, line, lines-from, lines-of, line-bytes, with-end}
+use Rattle.lines.specs.declared.line.Line.{Line}
 
 abbrev Within : ℕ → Line → Type 0
 Within n l = l .span .start + l .span .length ≤ n

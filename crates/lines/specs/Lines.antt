@@ -1,7 +1,5 @@
 -- The lines of a text. A line ends with byte 10; bytes behind the last end are a line without one.
 --   line-end              the byte that ends a line
---   span-bytes xs s       the bytes of the text xs at the positions of the span s
---   same-bytes xs ys      whether two lists of bytes are the same
 --   line-bytes xs l       the bytes of the line l of the text xs, without its end
 --   with-end xs l         the same with its end, where it has one
 --   line s p ended        the line from position s to p
@@ -9,23 +7,13 @@
 --   lines-of xs           the lines of the text xs
 use Prim.Native.Nat.{ℕ, _+_, _-_}
 use lib.Dec.{eqb, ltb}
-use lib.ListN.{take, drop}
-use mathlib.Core.Bool.{Bool, true, false, cond, _&&_}
+use mathlib.Core.Bool.{Bool, true, false, cond}
 use mathlib.Core.List.{List, [], _∷_, _++_}
-use Rattle.statement.specs.declared.lines.Line.{Line}
-use Rattle.statement.specs.declared.lines.Span.{Span}
+use Rattle.lines.specs.Spans.{span-bytes}
+use Rattle.lines.specs.declared.line.Line.{Line}
 
 abbrev pub line-end : ℕ
 line-end = 10
-
-abbrev pub span-bytes : List ℕ → Span → List ℕ
-span-bytes xs s = take (s .length) (drop (s .start) xs)
-
-abbrev pub same-bytes : List ℕ → List ℕ → Bool
-same-bytes [] [] = true
-same-bytes [] (y ∷ ys) = false
-same-bytes (x ∷ xs) [] = false
-same-bytes (x ∷ xs) (y ∷ ys) = eqb x y && same-bytes xs ys
 
 abbrev pub line-bytes : List ℕ → Line → List ℕ
 line-bytes xs l = span-bytes xs (l .span)

@@ -3,9 +3,9 @@ use mathlib.Core.Path.{_≡_, ap, sym, _∙_}
 use lib.ListN.{length, getD}
 use lib.Seq.{take-all}
 use Rattle.std.proofs.shelf.Lists.{take-more-same}
-use Rattle.statement.specs.Lines.{span-bytes}
-use Rattle.statement.proofs.Spans.{length-span, getD-span, same-from-equal, differ-from-unequal}
-use Rattle.statement.proofs.lines.holds.Needs as need
+use Rattle.lines.specs.Spans.{span-bytes}
+use Rattle.lines.proofs.Spans.{length-span, getD-span, same-from-equal, differ-from-unequal}
+use Rattle.lines.proofs.span.holds.Needs as need
 
 pub returns-then-wanted-count : need.returns-then-wanted-count
 returns-then-wanted-count g c =

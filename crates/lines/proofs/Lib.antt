@@ -1,0 +1,3 @@
+pub mod LineLaws
+mod LineSteps
+pub mod Spans
