@@ -1,9 +1,7 @@
--- A memory's answer, from the side of its size that the position is on, and back.
+-- A memory's answer, from the side of its size that the position is on.
 use mathlib.Core.Path.{_≡_, ap}
 use mathlib.Core.List.{List}
 use Prim.Native.Nat.{ℕ, _<_, _≤_}
-use native.Mathlib.Omega.{arith}
-use Rattle.std.proofs.shelf.Ways.{tells}
 use lib.ListN.{length, getD}
 use Rattle.std.proofs.shelf.Tests.{lt-ltb, le-ltb}
 use Rattle.memory.specs.Answers.{read-answer, put-answer}
@@ -23,15 +21,3 @@ module _ (xs : List ℕ) (f : ℕ → MemoryFault) (p : ℕ) where
 
   pub put-past : (e : MemoryFault) → length xs ≤ p → e ≡ f p → Err e ≡ put-answer xs f p
   put-past e h q = rw (le-ltb p (length xs) h) (ap Err q)
-
-  pub ok-read : (v : ℕ) → Ok v ≡ read-answer xs f p → (p < length xs) × (v ≡ getD xs p 0)
-  ok-read v e = grind (arith, tells)
-
-  pub err-read : (e : MemoryFault) → Err e ≡ read-answer xs f p → (length xs ≤ p) × (e ≡ f p)
-  err-read e q = grind (arith, tells)
-
-  pub ok-put : Ok tt ≡ put-answer xs f p → p < length xs
-  ok-put e = grind (arith, tells)
-
-  pub err-put : (e : MemoryFault) → Err e ≡ put-answer xs f p → (length xs ≤ p) × (e ≡ f p)
-  err-put e q = grind (arith, tells)

@@ -11,11 +11,11 @@ use lib.Seq.{getD-take, getD-drop, take-set-lt, drop-set-add}
 use Rattle.std.proofs.shelf.Lists.{set-past}
 use Rattle.std.proofs.shelf.Ways.{tells}
 use Rattle.std.proofs.shelf.Tests.{lt-ltb, le-ltb, cases-lt}
-use Rattle.memory.specs.Answers.{read-answer, put-answer}
+use Rattle.memory.specs.Answers.{read-answer, put-answer, handed-up}
 use Rattle.memory.specs.Faults.{raised, own-fault}
 use Rattle.memory.specs.Layouts.{most, window-bytes, window-fault, put-below, lowered-answer}
 use Rattle.memory.specs.declared.fault.MemoryFault.{MemoryFault}
-use Rattle.memory.proofs.Answering.{read-within, read-past, ok-read, err-read, put-within, put-past, ok-put, err-put}
+use Rattle.memory.proofs.Answering.{read-within, read-past, put-within, put-past}
 use Rattle.std.specs.declared.result.Result.{Result}
 use Rattle.std.specs.declared.result.Result.the-variants.{Ok, Err}
 
@@ -93,35 +93,30 @@ module _ (a n : ℕ) (xs : List ℕ) where
     unmoved-refused b e q = put-below-own p b (refused-by-window e q .0)
 
     module _ (s : ℕ) (short : length xs < 2 ^ 32) (lower : Ok s ≡ lowered-answer a n xs p) where
-      pub read-passed : (v : ℕ) → Ok v ≡ read-answer xs f s → Ok v ≡ read-answer (window-bytes a n xs) (window-fault a n xs f) p
-      read-passed v e =
+      -- below the size, the byte is the window's; past it, so is the fault
+      inside : s < length xs → (p < length (window-bytes a n xs)) × (getD xs s 0 ≡ getD (window-bytes a n xs) p 0)
+      inside h =
           let l = lowered-to s lower in
-          let k = ok-read xs f s v e in
-          read-within (window-bytes a n xs) (window-fault a n xs f) p v
-          (omega (arith, length-window))
-          (k .1 ∙ ap (λ i. getD xs i 0) (omega arith) ∙ getD-window p (l .0))
+          (omega (arith, length-window), ap (λ i. getD xs i 0) (omega arith) ∙ getD-window p (l .0))
 
-      pub read-raised : (e : MemoryFault) → Err e ≡ read-answer xs f s → Err (raised e) ≡ read-answer (window-bytes a n xs) (window-fault a n xs f) p
-      read-raised e q =
+      past : length xs ≤ s → (length (window-bytes a n xs) ≤ p) × (raised (f s) ≡ window-fault a n xs f p)
+      past h =
           let l = lowered-to s lower in
-          let k = err-read xs f s e q in
-          read-past (window-bytes a n xs) (window-fault a n xs f) p (raised e)
-          (omega (arith, length-window))
-          (ap raised (k .1 ∙ ap f (l .1)) ∙ fault-raised f p (l .0))
+          (omega (arith, length-window), ap (λ i. raised (f i)) (l .1) ∙ fault-raised f p (l .0))
 
-      pub put-passed : Ok tt ≡ put-answer xs f s → Ok tt ≡ put-answer (window-bytes a n xs) (window-fault a n xs f) p
-      put-passed e =
-          let l = lowered-to s lower in
-          let k = ok-put xs f s e in
-          put-within (window-bytes a n xs) (window-fault a n xs f) p (omega (arith, length-window))
+      pub read-passed : handed-up (read-answer xs f s) ≡ read-answer (window-bytes a n xs) (window-fault a n xs f) p
+      read-passed =
+          ⊎-elim
+          (λ h. rw (lt-ltb s (length xs) h) (read-within (window-bytes a n xs) (window-fault a n xs f) p (getD xs s 0) (inside h .0) (inside h .1)))
+          (λ h. rw (le-ltb s (length xs) h) (read-past (window-bytes a n xs) (window-fault a n xs f) p (raised (f s)) (past h .0) (past h .1)))
+          (cases-lt s (length xs))
 
-      pub put-raised : (e : MemoryFault) → Err e ≡ put-answer xs f s → Err (raised e) ≡ put-answer (window-bytes a n xs) (window-fault a n xs f) p
-      put-raised e q =
-          let l = lowered-to s lower in
-          let k = err-put xs f s e q in
-          put-past (window-bytes a n xs) (window-fault a n xs f) p (raised e)
-          (omega (arith, length-window))
-          (ap raised (k .1 ∙ ap f (l .1)) ∙ fault-raised f p (l .0))
+      pub put-passed : handed-up (put-answer xs f s) ≡ put-answer (window-bytes a n xs) (window-fault a n xs f) p
+      put-passed =
+          ⊎-elim
+          (λ h. rw (lt-ltb s (length xs) h) (put-within (window-bytes a n xs) (window-fault a n xs f) p (inside h .0)))
+          (λ h. rw (le-ltb s (length xs) h) (put-past (window-bytes a n xs) (window-fault a n xs f) p (raised (f s)) (past h .0) (past h .1)))
+          (cases-lt s (length xs))
 
       pub moved-passed : (b : ℕ) → set xs s b ≡ put-below a n xs p b
       moved-passed b = let l = lowered-to s lower in ap (λ i. set xs i b) (l .1) ∙ put-below-passed p b (l .0)

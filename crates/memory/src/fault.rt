@@ -1,4 +1,4 @@
-ghost use Rattle.memory.specs.Faults.{raised};
+ghost use Rattle.memory.specs.Faults.{own-fault, raised};
 ghost use mathlib.Core.Path.{_≡_};
 
 // Why a memory refused a position.
@@ -13,6 +13,17 @@ pub struct MemoryFault {
 }
 
 impl MemoryFault {
+    // The fault of a memory of this size that itself refuses the position.
+    pub fn own(position: u32, size: u32) -> MemoryFault
+        ensures { λ r. ⌜ r ≡ own-fault size position ⌝ }
+    {
+        MemoryFault {
+            position,
+            size,
+            layers: 0,
+        }
+    }
+
     // The fault as the next layer hands it up.
     pub fn raise(self) -> MemoryFault
         ensures { λ r. ⌜ r ≡ raised self ⌝ }

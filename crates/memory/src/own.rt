@@ -36,11 +36,7 @@ pub impl Memory for OwnMemory as OwnIsMemory {
         if position < size {
             Ok(self.cells[position as usize])
         } else {
-            Err(MemoryFault {
-                position,
-                size,
-                layers: 0,
-            })
+            Err(MemoryFault::own(position, size))
         }
     }
 
@@ -50,11 +46,7 @@ pub impl Memory for OwnMemory as OwnIsMemory {
             self.cells[position as usize] = byte;
             Ok(())
         } else {
-            Err(MemoryFault {
-                position,
-                size,
-                layers: 0,
-            })
+            Err(MemoryFault::own(position, size))
         }
     }
 }

@@ -43,11 +43,7 @@ pub impl<'a> Memory for SliceMemory<'a> as SliceIsMemory {
         if position < size {
             Ok(self.slice[position as usize])
         } else {
-            Err(MemoryFault {
-                position,
-                size,
-                layers: 0,
-            })
+            Err(MemoryFault::own(position, size))
         }
     }
 
@@ -63,11 +59,7 @@ pub impl<'a> Memory for SliceMemory<'a> as SliceIsMemory {
             self.slice[position as usize] = byte;
             Ok(())
         } else {
-            Err(MemoryFault {
-                position,
-                size,
-                layers: 0,
-            })
+            Err(MemoryFault::own(position, size))
         }
     }
 }

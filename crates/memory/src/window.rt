@@ -1,5 +1,5 @@
 ghost use Prim.Native.Nat.{ℕ};
-ghost use Rattle.memory.specs.Answers.{put-answer};
+ghost use Rattle.memory.specs.Answers.{handed-up, put-answer};
 ghost use Rattle.memory.specs.Bounds.{window-short};
 ghost use Rattle.memory.specs.Layouts.{window-bytes, window-fault, put-below, lowered-answer};
 ghost use lib.ListN.{length, set};
@@ -41,6 +41,16 @@ impl<M> Window<M> {
     }
 }
 
+// An answer from below as the layer hands it up.
+fn handed_up<T>(answer: Result<T, MemoryFault>) -> Result<T, MemoryFault>
+    ensures { λ r. ⌜ r ≡ handed-up answer ⌝ }
+{
+    match answer {
+        Ok(done) => Ok(done),
+        Err(fault) => Err(fault.raise()),
+    }
+}
+
 impl<M: Memory> Window<M> {
     // The position below for one of the window's, or the window's own refusal.
     fn lowered(&self, position: u32) -> Result<u32, MemoryFault>
@@ -49,12 +59,7 @@ impl<M: Memory> Window<M> {
         if position < self.length {
             Ok(self.start.saturating_add(position))
         } else {
-            let size = self.size();
-            Err(MemoryFault {
-                position,
-                size,
-                layers: 0,
-            })
+            Err(MemoryFault::own(position, self.size()))
         }
     }
 }
@@ -75,10 +80,7 @@ pub impl<M: Memory> Memory for Window<M> as WindowIsMemory {
 
     fn read(&self, position: u32) -> Result<u8, MemoryFault> {
         let lower = self.lowered(position)?;
-        match self.below.read(lower) {
-            Ok(byte) => Ok(byte),
-            Err(fault) => Err(fault.raise()),
-        }
+        handed_up(self.below.read(lower))
     }
 
     // Beside what every memory promises: the window stays where it is, and below it the one byte changes.
@@ -92,9 +94,6 @@ pub impl<M: Memory> Memory for Window<M> as WindowIsMemory {
         ensures below_faults { λ _. ⌜ M·Memory .fault (now (self .exit) .below) ≡ M·Memory .fault (now (self .entry) .below) ⌝ }
     {
         let lower = self.lowered(position)?;
-        match self.below.put(lower, byte) {
-            Ok(()) => Ok(()),
-            Err(fault) => Err(fault.raise()),
-        }
+        handed_up(self.below.put(lower, byte))
     }
 }

@@ -28,7 +28,7 @@ returns-else-position-size c =
     let xs = c .args .self .now .slice .now in
     let p = c .args .position in
     record {
-      answer = put-past (first-bytes xs) (own-fault (length (first-bytes xs))) p _ (omega arith) (ap (λ size. own-fault size p) (c .size-size .ensures));
+      answer = put-past (first-bytes xs) (own-fault (length (first-bytes xs))) p _ (omega arith) (c .own .ensures ∙ ap (λ size. own-fault size p) (c .size-size .ensures));
       memory = sym (set-past (first-bytes xs) p (c .args .byte) (omega arith));
       faults = refl;
       named = refl;

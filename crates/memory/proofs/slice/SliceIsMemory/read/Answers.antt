@@ -1,5 +1,5 @@
 use native.Mathlib.Omega.{arith}
-use mathlib.Core.Path.{sym, ap}
+use mathlib.Core.Path.{sym, ap, _∙_}
 use lib.ListN.{length, length-take}
 use lib.Seq.{getD-take}
 use Rattle.memory.specs.Faults.{own-fault}
@@ -20,4 +20,4 @@ pub returns-else-position-size : need.returns-else-position-size
 returns-else-position-size c =
     let xs = c .args .self .now .slice .now in
     let p = c .args .position in
-    read-past (first-bytes xs) (own-fault (length (first-bytes xs))) p _ (omega arith) (ap (λ size. own-fault size p) (c .size-size .ensures))
+    read-past (first-bytes xs) (own-fault (length (first-bytes xs))) p _ (omega arith) (c .own .ensures ∙ ap (λ size. own-fault size p) (c .size-size .ensures))

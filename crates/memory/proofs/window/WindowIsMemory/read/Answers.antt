@@ -1,7 +1,8 @@
 use mathlib.Core.Path.{ap, _∙_}
 use Rattle.std.proofs.shelf.Results.{err-from-errBy}
 use Rattle.std.specs.declared.result.Result.the-variants.{Err}
-use Rattle.memory.proofs.Windowed.{read-refused, read-passed, read-raised}
+use Rattle.memory.specs.Answers.{handed-up}
+use Rattle.memory.proofs.Windowed.{read-refused, read-passed}
 use Rattle.memory.proofs.window.WindowIsMemory.read.Needs as need
 
 pub returns-in-Break-lower : need.returns-in-Break-lower
@@ -11,15 +12,8 @@ returns-in-Break-lower g c =
     r .1 ∙ ap Err (r .2)
     ∙ read-refused (w .start) (w .length) (g .M·Memory .bytes (w .below)) (g .M·Memory .fault (w .below)) (c .args .position) _ (c .in-Break-lower .ensures tt)
 
-pub returns-in-Ok : need.returns-in-Ok
-returns-in-Ok g c =
+pub returns : need.returns
+returns g c =
     let w = c .args .self .now in
-    read-passed (w .start) (w .length) (g .M·Memory .bytes (w .below)) (g .M·Memory .fault (w .below)) (c .args .position) (c .in-Continue-lower .lower) (g .M·Memory .short (w .below)) (c .in-Continue-lower .ensures tt)
-    (c .in-Ok .byte) (c .in-Ok .ensures tt)
-
-pub returns-in-Err : need.returns-in-Err
-returns-in-Err g c =
-    let w = c .args .self .now in
-    ap Err (c .raise .ensures)
-    ∙ read-raised (w .start) (w .length) (g .M·Memory .bytes (w .below)) (g .M·Memory .fault (w .below)) (c .args .position) (c .in-Continue-lower .lower) (g .M·Memory .short (w .below)) (c .in-Continue-lower .ensures tt)
-    (c .in-Err .fault) (c .in-Err .ensures tt)
+    c .handed-up .ensures ∙ ap handed-up (c .read .ensures)
+    ∙ read-passed (w .start) (w .length) (g .M·Memory .bytes (w .below)) (g .M·Memory .fault (w .below)) (c .args .position) (c .in-Continue-lower .lower) (g .M·Memory .short (w .below)) (c .in-Continue-lower .ensures tt)
