@@ -1,0 +1,3 @@
+pub mod BytesMut
+pub mod Opening
+pub mod Reclaims

@@ -1,0 +1,12 @@
+pub mod BookSteps
+pub mod Checked
+pub mod EveryRun
+pub mod Frames
+pub mod Kept
+pub mod MemoryTurns
+pub mod Promising
+pub mod RoomsKept
+pub mod Showing
+pub mod TableTurns
+pub mod TurnSound
+pub mod Writes

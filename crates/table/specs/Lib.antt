@@ -1,0 +1,9 @@
+pub mod Checks
+pub mod Classes
+pub mod Faults
+pub mod PlaceLaw
+pub mod Places
+pub mod Rows
+pub mod Slots
+pub mod Soundness
+pub mod Tables
