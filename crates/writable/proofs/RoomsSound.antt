@@ -10,9 +10,8 @@ use Rattle.std.proofs.shelf.Tests.{and-parts, cond-both, leb-false, leb-true, t
 use Rattle.std.specs.Vec.{made}
 use Rattle.std.specs.declared.result.Result.{Result}
 use Rattle.std.specs.declared.result.Result.the-variants.{Ok, Err}
-use Rattle.table.proofs.SoundSteps.{ends-inside}
 use Rattle.table.specs.Checks.{block-row-check, or-refuse-with, place-check}
-use Rattle.table.specs.Rows.{extent-of, handle-free, kind-own, start-of}
+use Rattle.table.specs.Rows.{handle-free, kind-own}
 use Rattle.table.specs.Soundness.{Sound}
 use Rattle.table.specs.Tables.{handle-at, let-go, with-handle}
 use Rattle.table.specs.declared.fault.Fault.{Fault}
@@ -152,9 +151,3 @@ module _ (t : Table) (m : List ℕ) (g : ℕ → ℕ → ℕ) (i : ℕ) (h : Wri
   -- the handle that is answered stands in the row and has the room
   pub room-enough : (room : Room) → room-of t m g i h a .0 ≡ Ok room → Roomy (room-of t m g i h a .1) i h a (room .handle)
   room-enough room e = made-at-ok (λ x. Roomy (room-of t m g i h a .1) i h a (x .handle)) e (room-leaves .roomy)
-
-  -- and it ends in the working part
-  pub room-ends : (room : Room) → room-of t m g i h a .0 ≡ Ok room → room .handle .start + room .handle .capacity ≤ t .limit
-  room-ends room e =
-      let there = room-enough room e .stands in
-      omega (arith, ends-inside room-sound i (ap handle-free there), ap start-of there, ap extent-of there, room-leaves .limited)
