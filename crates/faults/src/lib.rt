@@ -1,3 +1,5 @@
+#![tactic(auto)]
+
 ghost use Rattle.faults.specs.Faults.{number_of, row_of};
 ghost use Rattle.std.specs.Prelude.{◌≡◌};
 

@@ -18,8 +18,8 @@ pub fn read_shown<M: Memory>(
     mem: &M,
     token: &BytesMut,
 ) -> Result<Vec<u8>, Stopped>
-    ensures answer { IfOk result (λ shown. shown.items ≡ view ledger.now.table (bytes mem.now) token.now) }
-    ensures reaches { OnOk result (ledger.now.table.limit ≤ length (bytes mem.now)) }
+    ensures answer { IfOk result (λ shown. shown.items ≡ view ledger.now.table (M.bytes mem.now) token.now) }
+    ensures reaches { OnOk result (ledger.now.table.limit ≤ length (M.bytes mem.now)) }
 {
     let count = token.len(ledger)?;
     let mut shown = vec![in heap; 0; count as usize]?;
@@ -47,7 +47,7 @@ pub fn next_line<M: Memory>(
     mem: &M,
     token: &BytesMut,
 ) -> Result<Option<Vec<u8>>, Stopped>
-    ensures { IfOk result (λ line. Fetched (view ledger.old.table (bytes mem.now) token.now) line (view ledger.new.table (bytes mem.now) token.now)) }
+    ensures { IfOk result (λ line. Fetched (view ledger.old.table (M.bytes mem.now) token.now) line (view ledger.new.table (M.bytes mem.now) token.now)) }
 {
     let mut shown = read_shown(heap, ledger, mem, token)?;
     match find_end(shown.as_slice()) {

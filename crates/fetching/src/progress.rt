@@ -43,7 +43,7 @@ fn line_at(position: u32, length: usize, ended: bool) -> Result<Line, Stopped>
 impl Progress {
     // No line is passed yet.
     pub fn new<I: Memory>(heap: Global, open_items: &I) -> Result<Progress, AllocError>
-        ensures { IfOk result (λ progress. ((xs : List ℕ) → Underway xs (bytes open_items.now) progress xs)) }
+        ensures { IfOk result (λ progress. ((xs : List ℕ) → Underway xs (I.bytes open_items.now) progress xs)) }
     {
         let invoices = read_invoices(heap, open_items)?;
         let entries = Vec::new(heap);
@@ -56,7 +56,7 @@ impl Progress {
 
     // Enters what becomes of the next line, which has this text.
     fn enter<I: Memory>(&mut self, open_items: &I, line: Line, text: &[u8]) -> Result<(), Stopped>
-        ensures { OnOk result (Entered (bytes open_items.now) self.old line text.now self.new) }
+        ensures { OnOk result (Entered (I.bytes open_items.now) self.old line text.now self.new) }
     {
         let index = self.entries.len();
         let outcome = judge(index, line, text, &mut self.invoices, open_items);
@@ -66,7 +66,7 @@ impl Progress {
 
     // Passes the next line, which has this text and an end.
     pub fn pass<I: Memory>(&mut self, open_items: &I, text: &[u8]) -> Result<(), Stopped>
-        ensures { OnOk result ((NoEnd text.now → Carries (bytes open_items.now) self.old (text.now ++ line_end ∷ []) self.new [])) }
+        ensures { OnOk result ((NoEnd text.now → Carries (I.bytes open_items.now) self.old (text.now ++ line_end ∷ []) self.new [])) }
     {
         let line = line_at(self.position, text.len(), true)?;
         self.enter(open_items, line, text)?;
@@ -76,7 +76,7 @@ impl Progress {
 
     // The report, where these bytes without an end are all that is left.
     pub fn close<I: Memory>(mut self, open_items: &I, text: &[u8]) -> Result<Report, Stopped>
-        ensures { IfOk result (λ report. ((xs : List ℕ) → NoEnd text.now → Underway xs (bytes open_items.now) self text.now → (report.entries.items ≡ entries_of xs (bytes open_items.now)) × (report.invoices.items ≡ settled_invoices xs (bytes open_items.now)))) }
+        ensures { IfOk result (λ report. ((xs : List ℕ) → NoEnd text.now → Underway xs (I.bytes open_items.now) self text.now → (report.entries.items ≡ entries_of xs (I.bytes open_items.now)) × (report.invoices.items ≡ settled_invoices xs (I.bytes open_items.now)))) }
     {
         if !text.is_empty() {
             let line = line_at(self.position, text.len(), false)?;

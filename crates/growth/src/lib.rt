@@ -1,3 +1,5 @@
+#![tactic(auto)]
+
 ghost use Rattle.std.specs.Prelude.{◌≡◌, ℕ, ◌^◌, ◌<◌, ◌≤◌};
 ghost use Rattle.growth.specs.Rules.{doubled};
 ghost use Rattle.std.proofs.Common.{rules, arith};

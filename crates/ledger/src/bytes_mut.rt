@@ -95,8 +95,8 @@ impl BytesMut {
         mem: &mut M,
         source: &[u8],
     ) -> Result<BytesMut, Fault>
-        ensures does { (result, ledger.new.table, bytes mem.new) ≡ from_call ledger.old.table (bytes mem.old) (fault mem.old) source.now }
-        ensures faults { fault mem.new ≡ fault mem.old }
+        ensures does { (result, ledger.new.table, M.bytes mem.new) ≡ from_call ledger.old.table (M.bytes mem.old) (M.fault mem.old) source.now }
+        ensures faults { M.fault mem.new ≡ M.fault mem.old }
     {
         ledger.table.check_open(NO_ROW)?;
         let row = calls::from(&mut ledger.table, mem, source)?;
@@ -131,7 +131,7 @@ impl BytesMut {
         at: u64,
         out: &mut [u8],
     ) -> Result<(), Fault>
-        ensures { (result, out.new) ≡ read_call ledger.now.table (bytes mem.now) (fault mem.now) self.now at out.old }
+        ensures { (result, out.new) ≡ read_call ledger.now.table (M.bytes mem.now) (M.fault mem.now) self.now at out.old }
     {
         let handle = known(&ledger.table, self)?;
         calls::read(
@@ -209,8 +209,8 @@ impl BytesMut {
         growth: &G,
         additional: u64,
     ) -> Result<u32, Fault>
-        ensures does { (result, ledger.new.table, bytes mem.new) ≡ reserve_call ledger.old.table (bytes mem.old) (fault mem.old) (G.Growth.answer growth.now) self.now additional }
-        ensures faults { fault mem.new ≡ fault mem.old }
+        ensures does { (result, ledger.new.table, M.bytes mem.new) ≡ reserve_call ledger.old.table (M.bytes mem.old) (M.fault mem.old) (G.Growth.answer growth.now) self.now additional }
+        ensures faults { M.fault mem.new ≡ M.fault mem.old }
     {
         let handle = known(&ledger.table, self)?;
         calls::reserve(&mut ledger.table, mem, growth, self.row, handle, additional)
@@ -223,9 +223,9 @@ impl BytesMut {
         mem: &mut M,
         additional: u64,
     ) -> Result<Reclaim, Fault>
-        ensures does { (result, ledger.new.table, bytes mem.new) ≡ try_reclaim_call ledger.old.table (bytes mem.old) (fault mem.old) self.now additional }
+        ensures does { (result, ledger.new.table, M.bytes mem.new) ≡ try_reclaim_call ledger.old.table (M.bytes mem.old) (M.fault mem.old) self.now additional }
         ensures reclaims_exactly { ReclaimsExactly ledger.old.table self.now additional result }
-        ensures faults { fault mem.new ≡ fault mem.old }
+        ensures faults { M.fault mem.new ≡ M.fault mem.old }
     {
         let handle = known(&ledger.table, self)?;
         calls::try_reclaim(&mut ledger.table, mem, self.row, handle, additional)
@@ -239,8 +239,8 @@ impl BytesMut {
         growth: &G,
         source: &[u8],
     ) -> Result<u32, Fault>
-        ensures does { (result, ledger.new.table, bytes mem.new) ≡ extend_call ledger.old.table (bytes mem.old) (fault mem.old) (G.Growth.answer growth.now) self.now source.now }
-        ensures faults { fault mem.new ≡ fault mem.old }
+        ensures does { (result, ledger.new.table, M.bytes mem.new) ≡ extend_call ledger.old.table (M.bytes mem.old) (M.fault mem.old) (G.Growth.answer growth.now) self.now source.now }
+        ensures faults { M.fault mem.new ≡ M.fault mem.old }
     {
         let handle = known(&ledger.table, self)?;
         calls::extend_from_slice(&mut ledger.table, mem, growth, self.row, handle, source)
@@ -278,8 +278,8 @@ impl BytesMut {
         growth: &G,
         mut other: BytesMut,
     ) -> Result<u32, Refused>
-        ensures does { (result, ledger.new.table, bytes mem.new) ≡ unsplit_call ledger.old.table (bytes mem.old) (fault mem.old) (G.Growth.answer growth.now) self.now other }
-        ensures faults { fault mem.new ≡ fault mem.old }
+        ensures does { (result, ledger.new.table, M.bytes mem.new) ≡ unsplit_call ledger.old.table (M.bytes mem.old) (M.fault mem.old) (G.Growth.answer growth.now) self.now other }
+        ensures faults { M.fault mem.new ≡ M.fault mem.old }
     {
         match known_both(&ledger.table, self, &other) {
             Err(fault) => Err(Refused {

@@ -1,3 +1,5 @@
+#![tactic(auto)]
+
 pub mod bytes;
 pub mod bytes_mut;
 pub mod ledger;

@@ -21,8 +21,8 @@ pub struct Line {
 
 // All lines of the text, in their order.
 pub fn find_lines<M: Memory>(heap: Global, mem: &M) -> Result<Vec<Line>, AllocError>
-    ensures answer { IfOk result (λ lines. lines.items ≡ lines_of (bytes mem.now)) }
-    ensures law { CutIntoLines (bytes mem.now) (lines_of (bytes mem.now)) }
+    ensures answer { IfOk result (λ lines. lines.items ≡ lines_of (M.bytes mem.now)) }
+    ensures law { CutIntoLines (M.bytes mem.now) (lines_of (M.bytes mem.now)) }
 {
     let mut lines = Vec::new(heap);
     let mut start = 0;

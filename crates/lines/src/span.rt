@@ -15,7 +15,7 @@ pub struct Span {
 impl Span {
     // How many of its positions the memory has.
     fn within<M: Memory>(self, mem: &M) -> u32
-        ensures { result ≡ min self.length (length (bytes mem.now) - self.start) }
+        ensures { result ≡ min self.length (length (M.bytes mem.now) - self.start) }
     {
         mem.size().saturating_sub(self.start).min(self.length)
     }
@@ -23,7 +23,7 @@ impl Span {
 
 // The bytes of a span, as far as the memory has them.
 pub fn read_span<M: Memory>(heap: Global, mem: &M, span: Span) -> Result<Vec<u8>, AllocError>
-    ensures { IfOk result (λ found. found.items ≡ span_bytes (bytes mem.now) span) }
+    ensures { IfOk result (λ found. found.items ≡ span_bytes (M.bytes mem.now) span) }
 {
     let mut found = Vec::new(heap);
     let count = span.within(mem);
@@ -35,7 +35,7 @@ pub fn read_span<M: Memory>(heap: Global, mem: &M, span: Span) -> Result<Vec<u8>
 
 // Whether a span holds these bytes.
 pub fn holds<M: Memory>(mem: &M, span: Span, wanted: &[u8]) -> bool
-    ensures { result ≡ same_bytes (span_bytes (bytes mem.now) span) wanted.now }
+    ensures { result ≡ same_bytes (span_bytes (M.bytes mem.now) span) wanted.now }
 {
     let count = span.within(mem);
     if wanted.len() != count as usize {

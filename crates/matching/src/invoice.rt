@@ -68,7 +68,7 @@ fn parse_invoice(line: Line, text: &[u8]) -> Invoice
 
 // All invoices, in the order of their lines.
 pub fn read_invoices<M: Memory>(heap: Global, mem: &M) -> Result<Vec<Invoice>, AllocError>
-    ensures { IfOk result (λ invoices. invoices.items ≡ invoices_of (bytes mem.now)) }
+    ensures { IfOk result (λ invoices. invoices.items ≡ invoices_of (M.bytes mem.now)) }
 {
     let mut invoices = Vec::new(heap);
     let lines = find_lines(heap, mem)?;

@@ -20,7 +20,7 @@ fn same_amount(a: i64, b: i64) -> bool
 
 // Whether an invoice is open and asks for the payment's amount from this payee.
 fn asks<M: Memory>(invoice: Invoice, mem: &M, payment: Worded, payee: &[u8]) -> bool
-    ensures { result ≡ asks_for (bytes mem.now) payment.amount payee.now invoice }
+    ensures { result ≡ asks_for (M.bytes mem.now) payment.amount payee.now invoice }
 {
     match invoice {
         Invoice::Open(claim) => same_amount(claim.amount, payment.amount)
@@ -37,7 +37,7 @@ fn find_open<M: Memory>(
     payment: Worded,
     payee: &[u8],
 ) -> Option<usize>
-    ensures value { result ≡ first_open (bytes mem.now) payment.amount payee.now 0 invoices.now }
+    ensures value { result ≡ first_open (M.bytes mem.now) payment.amount payee.now 0 invoices.now }
     ensures inside { IfSome result (λ index. index < length invoices.now) }
 {
     for (index, invoice) in invoices.iter().enumerate() {
@@ -56,7 +56,7 @@ fn pair<M: Memory>(
     payment: Worded,
     payee: &[u8],
 ) -> Outcome
-    ensures { (result, invoices.new.items) ≡ pairing line payment invoices.old.items (first_open (bytes mem.now) payment.amount payee.now 0 invoices.old.items) }
+    ensures { (result, invoices.new.items) ≡ pairing line payment invoices.old.items (first_open (M.bytes mem.now) payment.amount payee.now 0 invoices.old.items) }
 {
     match find_open(invoices.as_slice(), mem, payment, payee) {
         Some(index) => {
@@ -84,7 +84,7 @@ pub fn judge<M: Memory>(
     invoices: &mut Vec<Invoice>,
     mem: &M,
 ) -> Outcome
-    ensures { (result, invoices.new.items) ≡ judged (bytes mem.now) index line text.now invoices.old.items }
+    ensures { (result, invoices.new.items) ≡ judged (M.bytes mem.now) index line text.now invoices.old.items }
 {
     match read_record(line, text) {
         Ok(Record::Payment(payment)) => {

@@ -4,8 +4,8 @@ use crate::interface::Memory;
 
 // The byte at a position that the memory has.
 pub fn byte_at<M: Memory>(mem: &M, position: u32) -> u8
-    requires { position < length (bytes mem.now) }
-    ensures { result ≡ slice_index (bytes mem.now) position }
+    requires { position < length (M.bytes mem.now) }
+    ensures { result ≡ slice_index (M.bytes mem.now) position }
 {
     match mem.read(position) {
         Ok(byte) => byte,

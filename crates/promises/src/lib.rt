@@ -1,4 +1,6 @@
 // What every run of calls on a ledger keeps.
+#![tactic(auto)]
+
 ghost use Rattle.promises.specs.Law.{EveryRunKeepsItsPromises};
 
 // From a new ledger on, over every memory and every growth rule, whatever is called: counts are true, blocks and writable

@@ -1,4 +1,6 @@
 // Pairs the payments of a bank statement, read from standard input, with the open invoices of a file, and prints the log.
+#![tactic(auto)]
+
 mod show;
 mod texts;
 

@@ -40,9 +40,9 @@ fn slide<M: Memory>(
     block: Block,
 ) -> Room
     requires before { block.place ≤ handle.start }
-    requires inside { handle.start + handle.len ≤ length (bytes mem.old) }
-    ensures does { (result, table.new, bytes mem.new) ≡ slide_of table.old (bytes mem.old) row handle block }
-    ensures faults { fault mem.new ≡ fault mem.old }
+    requires inside { handle.start + handle.len ≤ length (M.bytes mem.old) }
+    ensures does { (result, table.new, M.bytes mem.new) ≡ slide_of table.old (M.bytes mem.old) row handle block }
+    ensures faults { M.fault mem.new ≡ M.fault mem.old }
 {
     copy_bytes(mem, handle.start, block.place, handle.len);
     let handle = WritableHandle {
@@ -81,10 +81,10 @@ fn grow<M: Memory, G: Growth>(
     requires over { block_at table.old handle.block ≡ block_row.Live block }
     requires before { block.place ≤ handle.start }
     requires behind { handle.start + handle.len ≤ block.place + block.size }
-    requires whole { table.old.limit ≤ length (bytes mem.old) }
+    requires whole { table.old.limit ≤ length (M.bytes mem.old) }
     requires enough { offset handle block + handle.len ≤ need }
-    ensures does { (result, table.new, bytes mem.new) ≡ grow_of table.old (bytes mem.old) (G.Growth.answer growth.now) row handle block need }
-    ensures faults { fault mem.new ≡ fault mem.old }
+    ensures does { (result, table.new, M.bytes mem.new) ≡ grow_of table.old (M.bytes mem.old) (G.Growth.answer growth.now) row handle block need }
+    ensures faults { M.fault mem.new ≡ M.fault mem.old }
 {
     check_need(table, need, row)?;
     let size = growth.grown(block.size, need as u32);
@@ -118,10 +118,10 @@ fn move_out<M: Memory>(
     requires over { block_at table.old handle.block ≡ block_row.Live block }
     requires before { block.place ≤ handle.start }
     requires behind { handle.start + handle.len ≤ block.place + block.size }
-    requires whole { table.old.limit ≤ length (bytes mem.old) }
+    requires whole { table.old.limit ≤ length (M.bytes mem.old) }
     requires enough { handle.len ≤ size }
-    ensures does { (result, table.new, bytes mem.new) ≡ move_out_of table.old (bytes mem.old) row handle block size }
-    ensures faults { fault mem.new ≡ fault mem.old }
+    ensures does { (result, table.new, M.bytes mem.new) ≡ move_out_of table.old (M.bytes mem.old) row handle block size }
+    ensures faults { M.fault mem.new ≡ M.fault mem.old }
 {
     let new = table.vacant_block(row)?;
     let place = table.place_for(size, row)?;
@@ -164,9 +164,9 @@ pub fn make_room<M: Memory, G: Growth>(
 ) -> Result<Room, Fault>
     requires sound { ∥ Sound table.old ∥₁ }
     requires held { handle_at table.old row ≡ handle-row.Writable handle }
-    requires whole { table.old.limit ≤ length (bytes mem.old) }
-    ensures does { (result, table.new, bytes mem.new) ≡ room_of table.old (bytes mem.old) (G.Growth.answer growth.now) row handle additional }
-    ensures faults { fault mem.new ≡ fault mem.old }
+    requires whole { table.old.limit ≤ length (M.bytes mem.old) }
+    ensures does { (result, table.new, M.bytes mem.new) ≡ room_of table.old (M.bytes mem.old) (G.Growth.answer growth.now) row handle additional }
+    ensures faults { M.fault mem.new ≡ M.fault mem.old }
 {
     let block = table.block(handle.block).block();
     match rule_for(handle, block, additional) {
@@ -188,9 +188,9 @@ pub fn reclaim_room<M: Memory>(
 ) -> Reclaim
     requires sound { ∥ Sound table.old ∥₁ }
     requires held { handle_at table.old row ≡ handle-row.Writable handle }
-    requires whole { table.old.limit ≤ length (bytes mem.old) }
-    ensures does { (result, table.new, bytes mem.new) ≡ reclaim_of table.old (bytes mem.old) row handle additional }
-    ensures faults { fault mem.new ≡ fault mem.old }
+    requires whole { table.old.limit ≤ length (M.bytes mem.old) }
+    ensures does { (result, table.new, M.bytes mem.new) ≡ reclaim_of table.old (M.bytes mem.old) row handle additional }
+    ensures faults { M.fault mem.new ≡ M.fault mem.old }
 {
     let block = table.block(handle.block).block();
     match rule_for(handle, block, additional) {

@@ -1,2 +1,4 @@
+#![tactic(auto)]
+
 pub mod split;
 pub mod unsplit;

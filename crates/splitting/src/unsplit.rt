@@ -102,9 +102,9 @@ fn append<M: Memory, G: Growth>(
     requires held { handle_at table.old row ≡ handle-row.Writable first }
     requires other_held { handle_at table.old other_row ≡ handle-row.Writable other }
     requires two { row ≢ other_row }
-    requires whole { table.old.limit ≤ length (bytes mem.old) }
-    ensures does { (result, table.new, bytes mem.new) ≡ appended (room_of table.old (bytes mem.old) (G.Growth.answer growth.now) row first other.len) row other_row other }
-    ensures faults { fault mem.new ≡ fault mem.old }
+    requires whole { table.old.limit ≤ length (M.bytes mem.old) }
+    ensures does { (result, table.new, M.bytes mem.new) ≡ appended (room_of table.old (M.bytes mem.old) (G.Growth.answer growth.now) row first other.len) row other_row other }
+    ensures faults { M.fault mem.new ≡ M.fault mem.old }
 {
     let room = make_room(table, mem, growth, row, first, other.len as u64)?;
     let handle = room.handle;
@@ -132,8 +132,8 @@ pub fn unsplit<M: Memory, G: Growth>(
     requires held { handle_at table.old row ≡ handle-row.Writable first }
     requires other_held { handle_at table.old other_row ≡ handle-row.Writable other }
     requires two { row ≢ other_row }
-    ensures does { (result, table.new, bytes mem.new) ≡ unsplit_of table.old (bytes mem.old) (fault mem.old) (G.Growth.answer growth.now) row first other_row other }
-    ensures faults { fault mem.new ≡ fault mem.old }
+    ensures does { (result, table.new, M.bytes mem.new) ≡ unsplit_of table.old (M.bytes mem.old) (M.fault mem.old) (G.Growth.answer growth.now) row first other_row other }
+    ensures faults { M.fault mem.new ≡ M.fault mem.old }
 {
     table.check_memory(mem, row)?;
     if first.len == 0 {

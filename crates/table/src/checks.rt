@@ -33,7 +33,7 @@ impl Table {
 
     // The memory has the last position of the working part.
     pub fn check_memory<M: Memory>(&self, mem: &M, row: u8) -> Result<(), Fault>
-        ensures { result ≡ memory_check self.now (bytes mem.now) (fault mem.now) row }
+        ensures { result ≡ memory_check self.now (M.bytes mem.now) (M.fault mem.now) row }
     {
         if self.limit == 0 {
             return Ok(());

@@ -1,3 +1,5 @@
+#![tactic(auto)]
+
 pub mod checks;
 pub mod places;
 pub mod table;

@@ -58,8 +58,8 @@ pub fn with_capacity(table: &mut Table, capacity: u64) -> Result<u8, Fault>
 }
 
 pub fn from<M: Memory>(table: &mut Table, mem: &mut M, source: &[u8]) -> Result<u8, Fault>
-    ensures does { (result, table.new, bytes mem.new) ≡ from_of table.old (bytes mem.old) (fault mem.old) source.now }
-    ensures faults { fault mem.new ≡ fault mem.old }
+    ensures does { (result, table.new, M.bytes mem.new) ≡ from_of table.old (M.bytes mem.old) (M.fault mem.old) source.now }
+    ensures faults { M.fault mem.new ≡ M.fault mem.old }
 {
     table.check_memory(mem, NO_ROW)?;
     let size = source.len() as u64;
@@ -78,8 +78,8 @@ pub fn reserve<M: Memory, G: Growth>(
 ) -> Result<u32, Fault>
     requires sound { ∥ Sound table.old ∥₁ }
     requires held { handle_at table.old row ≡ handle-row.Writable handle }
-    ensures does { (result, table.new, bytes mem.new) ≡ reserve_of table.old (bytes mem.old) (fault mem.old) (G.Growth.answer growth.now) row handle additional }
-    ensures faults { fault mem.new ≡ fault mem.old }
+    ensures does { (result, table.new, M.bytes mem.new) ≡ reserve_of table.old (M.bytes mem.old) (M.fault mem.old) (G.Growth.answer growth.now) row handle additional }
+    ensures faults { M.fault mem.new ≡ M.fault mem.old }
 {
     table.check_memory(mem, row)?;
     let room = make_room(table, mem, growth, row, handle, additional)?;
@@ -95,8 +95,8 @@ pub fn try_reclaim<M: Memory>(
 ) -> Result<Reclaim, Fault>
     requires sound { ∥ Sound table.old ∥₁ }
     requires held { handle_at table.old row ≡ handle-row.Writable handle }
-    ensures does { (result, table.new, bytes mem.new) ≡ try_reclaim_of table.old (bytes mem.old) (fault mem.old) row handle additional }
-    ensures faults { fault mem.new ≡ fault mem.old }
+    ensures does { (result, table.new, M.bytes mem.new) ≡ try_reclaim_of table.old (M.bytes mem.old) (M.fault mem.old) row handle additional }
+    ensures faults { M.fault mem.new ≡ M.fault mem.old }
 {
     table.check_memory(mem, row)?;
     Ok(reclaim_room(table, mem, row, handle, additional))
@@ -112,8 +112,8 @@ pub fn extend_from_slice<M: Memory, G: Growth>(
 ) -> Result<u32, Fault>
     requires sound { ∥ Sound table.old ∥₁ }
     requires held { handle_at table.old row ≡ handle-row.Writable handle }
-    ensures does { (result, table.new, bytes mem.new) ≡ extend_of table.old (bytes mem.old) (fault mem.old) (G.Growth.answer growth.now) row handle source.now }
-    ensures faults { fault mem.new ≡ fault mem.old }
+    ensures does { (result, table.new, M.bytes mem.new) ≡ extend_of table.old (M.bytes mem.old) (M.fault mem.old) (G.Growth.answer growth.now) row handle source.now }
+    ensures faults { M.fault mem.new ≡ M.fault mem.old }
 {
     table.check_memory(mem, row)?;
     let room = make_room(table, mem, growth, row, handle, source.len() as u64)?;
@@ -164,7 +164,7 @@ pub fn read<M: Memory>(
     out: &mut [u8],
 ) -> Result<(), Fault>
     requires inside { start + len ≤ table.now.limit }
-    ensures { (result, out.new) ≡ read_of table.now (bytes mem.now) (fault mem.now) row start len at out.old }
+    ensures { (result, out.new) ≡ read_of table.now (M.bytes mem.now) (M.fault mem.now) row start len at out.old }
 {
     table.check_memory(mem, row)?;
     check_range(at.saturating_add(out.len() as u64) <= len as u64, row)?;

@@ -7,7 +7,7 @@ loop-i-preserved g c =
     let m = g.M.Memory.bytes c.args.mem.now in
     let i = c.loop-i.i in
     let left = length-drop c.args.at m in
-    let written = take_more_set c.loop-i.out i c.byte-at.result (omega arith) in
+    let written = take_more_set c.loop-i.out i c.byte_at.result (omega arith) in
     let wanted = take_more (drop c.args.at m) i 0 (omega arith) in
     let read = get_or-drop c.args.at m i 0 in
     cc

@@ -14,9 +14,9 @@ loop-text-smaller g c =
     let m = g.M.Memory.bytes c.args.mem.now in
     let k = c.args.token.now in
     let v = view c.loop-text.ledger.table m k in
-    let v' = view c.next-line.new.ledger.table m k in
+    let v' = view c.next_line.new.ledger.table m k in
     let text = vec_items c.in-Some.text in
-    let cut = line_fetched v v' c.in-Some.text c.in-Some.is c.in-ok-text.ensures in
+    let cut = line_fetched v v' c.in-Some.text c.in-Some.is c.in_ok-text.ensures in
     omega (arith, ap length cut.rejoined, length-append text (line_end ∷ v'))
 
 pub loop-text-preserved : goal.loop-text-preserved
@@ -25,10 +25,10 @@ loop-text-preserved g c =
     let k = c.args.token.now in
     let u = view c.args.ledger.now.table m k in
     let v = view c.loop-text.ledger.table m k in
-    let v' = view c.next-line.new.ledger.table m k in
+    let v' = view c.next_line.new.ledger.table m k in
     let text = vec_items c.in-Some.text in
-    let cut = line_fetched v v' c.in-Some.text c.in-Some.is c.in-ok-text.ensures in
-    carried_on (g.I.Memory.bytes c.args.open-items.now) c.args.progress.now c.loop-text.progress c.pass.new.self u v text c.as-slice.result.now v' c.loop-text.invariant cut c.as-slice.ensures.value c.in-ok-pass.ensures
+    let cut = line_fetched v v' c.in-Some.text c.in-Some.is c.in_ok-text.ensures in
+    carried_on (g.I.Memory.bytes c.args.open_items.now) c.args.progress.now c.loop-text.progress c.pass.new.self u v text c.as_slice.result.now v' c.loop-text.invariant cut c.as_slice.ensures.value c.in_ok-pass.ensures
 
 pub returns : goal.returns
 returns g c =
@@ -36,9 +36,9 @@ returns g c =
     let k = c.args.token.now in
     let u = view c.args.ledger.now.table m k in
     let v = view c.loop-text.ledger.table m k in
-    let v' = view c.next-line.new.ledger.table m k in
-    let none = none_fetched v v' c.in-default.is c.in-ok-text.ensures in
+    let v' = view c.next_line.new.ledger.table m k in
+    let none = none_fetched v v' c.in_default.is c.in_ok-text.ensures in
     record {
       fetched = subst NoEnd (sym none.1) none.0;
-      passed = carried_all (g.I.Memory.bytes c.args.open-items.now) c.args.progress.now c.loop-text.progress u v v' c.loop-text.invariant none.1;
+      passed = carried_all (g.I.Memory.bytes c.args.open_items.now) c.args.progress.now c.loop-text.progress u v v' c.loop-text.invariant none.1;
     }

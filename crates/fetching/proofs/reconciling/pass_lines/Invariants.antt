@@ -6,7 +6,7 @@ use Rattle.fetching.proofs.reconciling.pass_lines.Given as goal
 abbrev pub invariant-loop-text : goal.invariant-loop-text
 invariant-loop-text g l =
     let m = g.M.Memory.bytes l.mem in
-    Carries (g.I.Memory.bytes l.open-items) l.initial.progress (view l.initial.ledger.table m l.token) l.progress (view l.ledger.table m l.token)
+    Carries (g.I.Memory.bytes l.open_items) l.initial.progress (view l.initial.ledger.table m l.token) l.progress (view l.ledger.table m l.token)
 
 abbrev pub decreases-loop-text : goal.decreases-loop-text
 decreases-loop-text g l = length (view l.ledger.table (g.M.Memory.bytes l.mem) l.token)

@@ -11,41 +11,41 @@ use Rattle.fetching.proofs.reconciling.reconcile.Goals as goal
 
 pub loop-chunk-init : goal.loop-chunk-init
 loop-chunk-init g c =
-    let ys = g.I.Memory.bytes c.args.open-items.now in
-    let p = c.pass-lines.new.progress in
-    let v = view c.pass-lines.new.ledger.table (g.M.Memory.bytes c.args.mem.now) c.args.token.now in
-    let all = ap chunks_rest c.into-iter-chunk-iterator.ensures.into-iter-gives ∙ c.chunks-chunk-items.ensures.rest in
-    (c.in-ok-pass-lines.ensures.fetched, λ xs. subst (λ (rest : List ℕ). Underway xs ys p (v ++ rest)) (sym all))
+    let ys = g.I.Memory.bytes c.args.open_items.now in
+    let p = c.pass_lines.new.progress in
+    let v = view c.pass_lines.new.ledger.table (g.M.Memory.bytes c.args.mem.now) c.args.token.now in
+    let all = ap chunks_rest c.into_iter-chunk-iterator.ensures.into_iter-gives ∙ c.chunks-chunk-items.ensures.rest in
+    (c.in_ok-pass_lines.ensures.fetched, λ xs. subst (λ (rest : List ℕ). Underway xs ys p (v ++ rest)) (sym all))
 
 pub loop-chunk-preserved : goal.loop-chunk-preserved
 loop-chunk-preserved g c =
-    let ys = g.I.Memory.bytes c.args.open-items.now in
+    let ys = g.I.Memory.bytes c.args.open_items.now in
     let k = c.args.token.now in
     let t = c.loop-chunk.ledger.table in
     let m = g.M.Memory.bytes c.loop-chunk.mem in
     let f = g.M.Memory.fault c.loop-chunk.mem in
-    let t' = c.extend-from-slice.new.ledger.table in
-    let m' = g.M.Memory.bytes c.extend-from-slice.new.mem in
+    let t' = c.extend_from_slice.new.ledger.table in
+    let m' = g.M.Memory.bytes c.extend_from_slice.new.mem in
     let grown = g.G.Growth.answer c.args.growth.now in
     let chunk = c.in-Some.chunk.now in
-    let extended = extended_view t m f k (sound_opens t c.loop-chunk.ledger.sound) grown (g.met.G.Growth.enough c.args.growth.now) chunk c.in-ok-moved.moved t' m' c.in-ok-moved.ensures.does in
-    let w = view c.pass-lines-in-loop-chunk.new.ledger.table m' k in
+    let extended = extended_view t m f k (sound_opens t c.loop-chunk.ledger.sound) grown (g.met.G.Growth.enough c.args.growth.now) chunk c.in_ok-moved.moved t' m' c.in_ok-moved.ensures.does in
+    let w = view c.pass_lines-in-loop-chunk.new.ledger.table m' k in
     let cut = c.in-Some.ensures.steps.1.0 in
-    let passed = c.in-ok-pass-lines-2.ensures in
-    (passed.fetched, λ xs under. chunk_carried xs ys c.loop-chunk.progress c.pass-lines-in-loop-chunk.new.progress (view t m k) w (view t' m' k) chunk (chunks_rest c.loop-chunk.chunk-iterator) (chunks_rest c.next.new.self) cut extended passed.passed (c.loop-chunk.invariant.1 xs under))
+    let passed = c.in_ok-pass_lines-2.ensures in
+    (passed.fetched, λ xs under. chunk_carried xs ys c.loop-chunk.progress c.pass_lines-in-loop-chunk.new.progress (view t m k) w (view t' m' k) chunk (chunks_rest c.loop-chunk.chunk-iterator) (chunks_rest c.next.new.self) cut extended passed.passed (c.loop-chunk.invariant.1 xs under))
 
 pub returns : goal.returns
 returns g c =
-    let ys = g.I.Memory.bytes c.args.open-items.now in
+    let ys = g.I.Memory.bytes c.args.open_items.now in
     let k = c.args.token.now in
     let source = c.args.source.now in
     let xs = view c.args.ledger.now.table (g.M.Memory.bytes c.args.mem.now) k ++ source in
     let v = view c.loop-chunk.ledger.table (g.M.Memory.bytes c.loop-chunk.mem) k in
-    let left = c.as-slice.result.now in
-    let shown = c.as-slice.ensures.value ∙ c.in-ok-left.ensures.answer in
-    let begun = c.in-ok-progress.ensures xs in
-    let first = c.in-ok-pass-lines.ensures.passed xs source begun in
+    let left = c.as_slice.result.now in
+    let shown = c.as_slice.ensures.value ∙ c.in_ok-left.ensures.answer in
+    let begun = c.in_ok-progress.ensures xs in
+    let first = c.in_ok-pass_lines.ensures.passed xs source begun in
     let last = source_carried xs ys c.loop-chunk.progress v (chunks_rest c.loop-chunk.chunk-iterator) left c.in-None.ensures.steps.1.0 shown (c.loop-chunk.invariant.1 xs first) in
-    let done = c.in-ok-report.ensures xs (subst NoEnd (sym shown) c.loop-chunk.invariant.0) last in
-    let report = c.in-ok-report.report in
+    let done = c.in_ok-report.ensures xs (subst NoEnd (sym shown) c.loop-chunk.invariant.0) last in
+    let report = c.in_ok-report.report in
     record { entries = done.0; invoices = done.1; law = reconciled_as xs ys (vec_items report.entries) (vec_items report.invoices) done.0 done.1 }

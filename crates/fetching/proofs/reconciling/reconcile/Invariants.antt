@@ -8,7 +8,7 @@ use Rattle.fetching.proofs.reconciling.reconcile.Given as goal
 -- what the handle shows, and then what is left of the source, is still to come
 abbrev pub invariant-loop-chunk : goal.invariant-loop-chunk
 invariant-loop-chunk g l =
-    let ys = g.I.Memory.bytes l.open-items in
+    let ys = g.I.Memory.bytes l.open_items in
     let shown = view l.ledger.table (g.M.Memory.bytes l.mem) l.token in
     let first = view l.initial.ledger.table (g.M.Memory.bytes l.initial.mem) l.token in
     NoEnd shown

@@ -10,13 +10,13 @@ returns-then-wanted-count g c =
     let s = c.args.span in
     sym (differ_from_unequal (span_bytes xs s) c.args.wanted.now (λ e. omega (arith, length_span xs s, ap length e)))
 
-pub returns-then-byte-at-wanted : goal.returns-then-byte-at-wanted
-returns-then-byte-at-wanted g c =
+pub returns-then-byte_at-wanted : goal.returns-then-byte_at-wanted
+returns-then-byte_at-wanted g c =
     let xs = g.M.Memory.bytes c.args.mem.now in
     let s = c.args.span in
     let k = c.loop-offset.offset in
     let read = get_or_span xs s k (omega (arith, length_span xs s)) in
-    sym (differ_from_unequal (span_bytes xs s) c.args.wanted.now (λ e. c.if-byte-at-wanted.true (c.byte-at.ensures ∙ sym read ∙ ap (λ ys. get_or ys k 0) e)))
+    sym (differ_from_unequal (span_bytes xs s) c.args.wanted.now (λ e. c.if-byte_at-wanted.true (c.byte_at.ensures ∙ sym read ∙ ap (λ ys. get_or ys k 0) e)))
 
 pub loop-offset-preserved : goal.loop-offset-preserved
 loop-offset-preserved g c =
@@ -25,7 +25,7 @@ loop-offset-preserved g c =
     let k = c.loop-offset.offset in
     let size = length_span xs s in
     let read = get_or_span xs s k (omega arith) in
-    take_more_same (span_bytes xs s) c.args.wanted.now k 0 (omega arith) (omega arith) c.loop-offset.invariant (read ∙ sym c.byte-at.ensures ∙ c.if-byte-at-wanted.false)
+    take_more_same (span_bytes xs s) c.args.wanted.now k 0 (omega arith) (omega arith) c.loop-offset.invariant (read ∙ sym c.byte_at.ensures ∙ c.if-byte_at-wanted.false)
 
 pub returns : goal.returns
 returns g c =

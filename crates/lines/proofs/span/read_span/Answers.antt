@@ -12,7 +12,7 @@ loop-offset-preserved g c =
     let size = length_span xs s in
     let more = take_more (span_bytes xs s) k 0 (omega arith) in
     let read = get_or_span xs s k (omega arith) in
-    let pushed = c.in-ok-push.ensures.items in
+    let pushed = c.in_ok-push.ensures.items in
     cc
 
 pub returns : goal.returns

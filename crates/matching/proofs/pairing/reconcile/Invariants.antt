@@ -7,6 +7,6 @@ use Rattle.matching.proofs.pairing.reconcile.Given as goal
 abbrev pub invariant-loop-index : goal.invariant-loop-index
 invariant-loop-index g l =
     let xs = g.S.Memory.bytes l.statement in
-    let ys = g.I.Memory.bytes l.open-items in
+    let ys = g.I.Memory.bytes l.open_items in
     (vec_items l.entries ++ entries_from xs ys l.index (vec_items l.invoices) (drop l.index (lines_of xs)) ≡ entries_of xs ys)
     × (invoices_after xs ys l.index (vec_items l.invoices) (drop l.index (lines_of xs)) ≡ settled_invoices xs ys)

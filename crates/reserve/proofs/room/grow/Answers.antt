@@ -5,13 +5,13 @@ use Rattle.table.proofs.SoundSingle.{sound_opens}
 use Rattle.reserve.proofs.HandleFacts.{copy_apart, room_found}
 use Rattle.reserve.proofs.room.grow.Goals as goal
 
-pub copy-bytes-requires : goal.copy-bytes-requires
-copy-bytes-requires g c =
+pub copy_bytes-requires : goal.copy_bytes-requires
+copy_bytes-requires g c =
     let t = c.args.table.now in
     let h = c.args.handle in
     let b = c.args.block in
     let s = sound_opens t c.requires.sound in
-    let room = room_found t _ _ _ s (sym c.in-ok-place.ensures.answer) in
+    let room = room_found t _ _ _ s (sym c.in_ok-place.ensures.answer) in
     let last = (subst (Placed t.fixed t.limit) c.requires.over (s.placed h.block)).high in
     let enough = g.met.G.Growth.enough c.args.growth.now b.size c.args.need in
     record {

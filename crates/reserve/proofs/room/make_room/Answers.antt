@@ -20,8 +20,8 @@ grow-requires g c =
     let enough : Enough h b c.args.additional (Grow c.in-Grow.need) = subst (Enough h b c.args.additional) (sym c.in-Grow.ensures) (rule_enough h b c.args.additional) in
     record { sound = c.requires.sound; over = w.over; before = w.before; behind = omega arith; whole = c.requires.whole; enough = omega arith }
 
-pub move-out-requires : goal.move-out-requires
-move-out-requires g c =
+pub move_out-requires : goal.move_out-requires
+move_out-requires g c =
     let t = c.args.table.now in
     let h = c.args.handle in
     let b = c.block-block.result in

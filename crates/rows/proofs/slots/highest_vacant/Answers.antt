@@ -9,11 +9,11 @@ loop-above-init g c =
     let rows = c.args.rows.now in
     (omega arith, ap (highest g.R.Slot.vacant) (take_all (length rows) rows (omega arith)))
 
-pub returns-then-is-vacant : goal.returns-then-is-vacant
-returns-then-is-vacant g c =
-    highest_there g.R.Slot.vacant c.args.rows.now c.loop-above.above c.index-rows-index.result (omega arith) (omega arith) c.index-rows-index.is c.if-is-vacant.ensures ∙ c.loop-above.invariant.1
+pub returns-then-is_vacant : goal.returns-then-is_vacant
+returns-then-is_vacant g c =
+    highest_there g.R.Slot.vacant c.args.rows.now c.loop-above.above c.index-rows-index.result (omega arith) (omega arith) c.index-rows-index.is c.if-is_vacant.ensures ∙ c.loop-above.invariant.1
 
 pub loop-above-preserved : goal.loop-above-preserved
 loop-above-preserved g c =
-    let lower = highest_lower g.R.Slot.vacant c.args.rows.now c.loop-above.above c.index-rows-index.result (omega arith) (omega arith) c.index-rows-index.is c.if-is-vacant.ensures in
+    let lower = highest_lower g.R.Slot.vacant c.args.rows.now c.loop-above.above c.index-rows-index.result (omega arith) (omega arith) c.index-rows-index.is c.if-is_vacant.ensures in
     (omega arith, lower ∙ c.loop-above.invariant.1)

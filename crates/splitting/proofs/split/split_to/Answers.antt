@@ -12,10 +12,10 @@ back-requires c =
     let t = c.args.table.now in
     let h = c.args.handle in
     let w = over t c.args.row h (sound_opens t c.requires.sound) c.requires.held in
-    omega (arith, range_passed c.args.at h.len c.args.row (sym c.in-ok-check-range.ensures))
+    omega (arith, range_passed c.args.at h.len c.args.row (sym c.in_ok-check_range.ensures))
 
-pub cut-in-two-requires : goal.cut-in-two-requires
-cut-in-two-requires c =
+pub cut_in_two-requires : goal.cut_in_two-requires
+cut_in_two-requires c =
     let t = c.args.table.now in
     subst (λ h. count_of (block_at t h.block) < 255) (sym c.front.ensures)
-    (one_more t c.args.row c.args.handle c.in-ok-new.new c.requires.sound c.requires.held (sym c.in-ok-new.ensures))
+    (one_more t c.args.row c.args.handle c.in_ok-new.new c.requires.sound c.requires.held (sym c.in_ok-new.ensures))

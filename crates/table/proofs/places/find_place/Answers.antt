@@ -3,7 +3,7 @@ use Rattle.std.proofs.lemmas.List.{at_drop_more, at_drop_all}
 use Rattle.table.specs.Places.{lowest_of}
 use Rattle.rows.specs.declared.block.BlockRow.TheVariants.{Free}
 use Rattle.table.proofs.places.find_place.Goals as goal
-use Rattle.table.proofs.places.find_place.Goals.{in-Live, in-default}
+use Rattle.table.proofs.places.find_place.Goals.{in-Live, in_default}
 
 pub loop-row-preserved : goal.loop-row-preserved
 loop-row-preserved c =
@@ -12,7 +12,7 @@ loop-row-preserved c =
     let here = at_drop_more from rows c.loop-row.row-index Free (omega arith) in
     elim c.match-row.branch [
       | in-Live w ↦ let at = ap (λ r. from (r ∷ drop (c.loop-row.row-index + 1) rows)) w.in-Live.is in cc
-      | in-default w ↦ let at = ap (λ r. from (r ∷ drop (c.loop-row.row-index + 1) rows)) w.in-default.is in cc
+      | in_default w ↦ let at = ap (λ r. from (r ∷ drop (c.loop-row.row-index + 1) rows)) w.in_default.is in cc
     ]
 
 pub returns : goal.returns

@@ -5,15 +5,15 @@ use Rattle.table.specs.Places.{clear}
 use Rattle.rows.specs.declared.block.BlockRow.TheVariants.{Free}
 use Rattle.table.proofs.places.is_clear.Goals as goal
 
-pub returns-then-would-meet : goal.returns-then-would-meet
-returns-then-would-meet c =
+pub returns-then-would_meet : goal.returns-then-would_meet
+returns-then-would_meet c =
     let here = at_drop_more (clear c.args.place c.args.size) c.args.rows.now c.loop-row.row-index Free (omega arith) in
-    sym (cond-true _ _ _ (sym c.if-would-meet.ensures)) ∙ sym here ∙ c.loop-row.invariant
+    sym (cond-true _ _ _ (sym c.if-would_meet.ensures)) ∙ sym here ∙ c.loop-row.invariant
 
 pub loop-row-preserved : goal.loop-row-preserved
 loop-row-preserved c =
     let here = at_drop_more (clear c.args.place c.args.size) c.args.rows.now c.loop-row.row-index Free (omega arith) in
-    sym (cond-false _ _ _ (sym c.if-would-meet.ensures)) ∙ sym here ∙ c.loop-row.invariant
+    sym (cond-false _ _ _ (sym c.if-would_meet.ensures)) ∙ sym here ∙ c.loop-row.invariant
 
 pub returns : goal.returns
 returns c =

@@ -3,7 +3,7 @@ use Rattle.std.proofs.lemmas.List.Sums.{count_by_more_yes, count_by_more_no, sum
 use Rattle.rows.specs.Rows.{block_free, block_live, size_of}
 use Rattle.rows.specs.declared.block.BlockRow.TheVariants.{Free}
 use Rattle.table.proofs.tally.add_up_blocks.Goals as goal
-use Rattle.table.proofs.tally.add_up_blocks.Goals.{in-Live, in-default}
+use Rattle.table.proofs.tally.add_up_blocks.Goals.{in-Live, in_default}
 
 pub loop-row-preserved : goal.loop-row-preserved
 loop-row-preserved c =
@@ -15,9 +15,9 @@ loop-row-preserved c =
           let more = count_by_more_yes block_live rows i Free (omega arith) (ap block_live w.in-Live.is) in
           let size = ap size_of w.in-Live.is in
           (omega (arith, w.count-is), omega (arith, w.bytes-is), omega (arith, w.count-is), omega (arith, w.bytes-is))
-      | in-default w ↦
-          let more = count_by_more_no block_live rows i Free (omega arith) (ap block_live w.in-default.is) in
-          let size = ap size_of w.in-default.is in
+      | in_default w ↦
+          let more = count_by_more_no block_live rows i Free (omega arith) (ap block_live w.in_default.is) in
+          let size = ap size_of w.in_default.is in
           (omega (arith, w.count-is), omega (arith, w.bytes-is), omega (arith, w.count-is), omega (arith, w.bytes-is))
     ]
 

@@ -10,25 +10,25 @@ use Rattle.writable.proofs.calls.extend_from_slice.Goals as goal
 use Rattle.writable.proofs.calls.extend_from_slice.Goals.{In-ok-room}
 
 -- the slice goes behind the bytes shown, in the memory
-behind : (g : given.Over) (c : In-ok-room g) → (c.in-ok-room.room.handle.start + c.in-ok-room.room.handle.len + length c.args.source.now ≤ length (g.M.Memory.bytes c.make-room.new.mem)) × (c.in-ok-room.room.handle.start + c.in-ok-room.room.handle.len + length c.args.source.now ≤ 16777216)
+behind : (g : given.Over) (c : In-ok-room g) → (c.in_ok-room.room.handle.start + c.in_ok-room.room.handle.len + length c.args.source.now ≤ length (g.M.Memory.bytes c.make_room.new.mem)) × (c.in_ok-room.room.handle.start + c.in_ok-room.room.handle.len + length c.args.source.now ≤ 16777216)
 behind g c =
     let t = c.args.table.now in
     let m = g.M.Memory.bytes c.args.mem.now in
     let h = c.args.handle in
     let b = block_in (block_at t h.block) in
     let w = handled t c.args.row h c.requires.held (sound_opens t c.requires.sound) b refl in
-    let reaches = memory_reaches t m (g.M.Memory.fault c.args.mem.now) _ _ c.in-ok-check-memory.ensures in
-    let made = room_roomy t m (g.G.Growth.answer c.args.growth.now) (g.met.G.Growth.enough c.args.growth.now) c.args.row h b (length c.args.source.now) w reaches c.in-ok-room.room _ _ refl c.in-ok-room.ensures.does in
+    let reaches = memory_reaches t m (g.M.Memory.fault c.args.mem.now) _ _ c.in_ok-check_memory.ensures in
+    let made = room_roomy t m (g.G.Growth.answer c.args.growth.now) (g.met.G.Growth.enough c.args.growth.now) c.args.row h b (length c.args.source.now) w reaches c.in_ok-room.room _ _ refl c.in_ok-room.ensures.does in
     (omega arith, omega arith)
 
-pub overflow-add-handle : goal.overflow-add-handle
-overflow-add-handle g c = omega (arith, (behind g (goal.at.overflow-add-handle g c).In-ok-room).1)
+pub overflow_add-handle : goal.overflow_add-handle
+overflow_add-handle g c = omega (arith, (behind g (goal.at.overflow_add-handle g c).In-ok-room).1)
 
-pub write-bytes-requires : goal.write-bytes-requires
-write-bytes-requires g c = omega (arith, (behind g (goal.at.write-bytes-requires g c).In-ok-room).0)
+pub write_bytes-requires : goal.write_bytes-requires
+write_bytes-requires g c = omega (arith, (behind g (goal.at.write_bytes-requires g c).In-ok-room).0)
 
-pub overflow-cast-longer : goal.overflow-cast-longer
-overflow-cast-longer g c = omega (arith, (behind g (goal.at.overflow-cast-longer g c).In-ok-room).1)
+pub overflow_cast-longer : goal.overflow_cast-longer
+overflow_cast-longer g c = omega (arith, (behind g (goal.at.overflow_cast-longer g c).In-ok-room).1)
 
-pub overflow-add-longer : goal.overflow-add-longer
-overflow-add-longer g c = omega (arith, (behind g (goal.at.overflow-add-longer g c).In-ok-room).1)
+pub overflow_add-longer : goal.overflow_add-longer
+overflow_add-longer g c = omega (arith, (behind g (goal.at.overflow_add-longer g c).In-ok-room).1)

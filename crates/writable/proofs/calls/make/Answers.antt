@@ -1,8 +1,8 @@
 use Rattle.std.proofs.Common.{arith}
 use Rattle.writable.proofs.calls.make.Goals as goal
 
-pub overflow-cast-size : goal.overflow-cast-size
-overflow-cast-size c = omega (arith, c.in-ok-place.ensures.small)
+pub overflow_cast-size : goal.overflow_cast-size
+overflow_cast-size c = omega (arith, c.in_ok-place.ensures.small)
 
-pub overflow-cast-handle : goal.overflow-cast-handle
-overflow-cast-handle c = omega (arith, c.in-ok-place.ensures.small)
+pub overflow_cast-handle : goal.overflow_cast-handle
+overflow_cast-handle c = omega (arith, c.in_ok-place.ensures.small)

@@ -4,6 +4,6 @@ use Rattle.fetching.proofs.progress.Progress.pass.Goals as goal
 
 pub returns : goal.returns
 returns g c =
-    let found = c.in-ok-line.ensures.answer in
-    let l = c.in-ok-line.line in
-    line_passed (g.I.Memory.bytes c.args.open-items.now) c.args.self.now c.enter.new.self l c.args.text.now _ found c.in-ok-enter.ensures (omega (arith, ap (λ x. x.span.start) found, ap (λ x. x.span.length) found))
+    let found = c.in_ok-line.ensures.answer in
+    let l = c.in_ok-line.line in
+    line_passed (g.I.Memory.bytes c.args.open_items.now) c.args.self.now c.enter.new.self l c.args.text.now _ found c.in_ok-enter.ensures (omega (arith, ap (λ x. x.span.start) found, ap (λ x. x.span.length) found))

@@ -7,5 +7,5 @@ use Rattle.ledger.proofs.bytes_mut.BytesMut.reserve.Goals as goal
 pub invariant-of-ledger : goal.invariant-of-ledger
 invariant-of-ledger g c =
     let t = c.args.ledger.now.table in
-    let k = known t c.args.self.now c.in-ok-handle.handle (sym c.in-ok-handle.ensures) in
-    (sound_after t _ _ (sound_opens t c.args.ledger.now.sound) (ap (λ r. r.1) c.reserve.ensures.does) (λ s. reserve_sound t (g.M.Memory.bytes c.args.mem.now) (g.M.Memory.fault c.args.mem.now) (g.G.Growth.answer c.args.growth.now) c.args.self.now.row c.in-ok-handle.handle c.args.additional s k.held (g.met.G.Growth.enough c.args.growth.now)), tt)
+    let k = known t c.args.self.now c.in_ok-handle.handle (sym c.in_ok-handle.ensures) in
+    (sound_after t _ _ (sound_opens t c.args.ledger.now.sound) (ap (λ r. r.1) c.reserve.ensures.does) (λ s. reserve_sound t (g.M.Memory.bytes c.args.mem.now) (g.M.Memory.fault c.args.mem.now) (g.G.Growth.answer c.args.growth.now) c.args.self.now.row c.in_ok-handle.handle c.args.additional s k.held (g.met.G.Growth.enough c.args.growth.now)), tt)

@@ -4,23 +4,23 @@ use Rattle.memory.specs.Answers.{handed_up}
 use Rattle.memory.proofs.Windowed.{put_refused, put_passed, unmoved_refused, moved_passed, window_put, window_fault_put}
 use Rattle.memory.proofs.window.WindowMemory.put.Goals as goal
 
-pub returns-in-err-lower : goal.returns-in-err-lower
-returns-in-err-lower g c =
+pub returns-in_err-lower : goal.returns-in_err-lower
+returns-in_err-lower g c =
     let w = c.args.self.now in
     let xs = g.M.Memory.bytes w.below in
     let f = g.M.Memory.fault w.below in
     let p = c.args.position in
     let b = c.args.byte in
-    let r = err_from_is_err_and c.from-residual.result c.from-residual.ensures.1 in
-    let below = unmoved_refused w.start w.length xs f p b _ c.in-err-lower.ensures in
+    let r = err_from_is_err_and c.from_residual.result c.from_residual.ensures.1 in
+    let below = unmoved_refused w.start w.length xs f p b _ c.in_err-lower.ensures in
     record {
-      answer = r.1 ∙ ap Err r.2 ∙ put_refused w.start w.length xs f p _ c.in-err-lower.ensures;
+      answer = r.1 ∙ ap Err r.2 ∙ put_refused w.start w.length xs f p _ c.in_err-lower.ensures;
       memory = window_put w.start w.length xs p b xs (g.M.Memory.short w.below) below;
       faults = refl;
       start = refl;
       length = refl;
       below = below;
-      below-faults = refl;
+      below_faults = refl;
     }
 
 pub returns : goal.returns
@@ -30,15 +30,15 @@ returns g c =
     let f = g.M.Memory.fault w.below in
     let p = c.args.position in
     let b = c.args.byte in
-    let s = c.in-ok-lower.lower in
+    let s = c.in_ok-lower.lower in
     let short = g.M.Memory.short w.below in
-    let below = c.put.ensures.memory ∙ moved_passed w.start w.length xs f p s short c.in-ok-lower.ensures b in
+    let below = c.put.ensures.memory ∙ moved_passed w.start w.length xs f p s short c.in_ok-lower.ensures b in
     record {
-      answer = c.handed_up.ensures ∙ ap handed_up c.put.ensures.answer ∙ put_passed w.start w.length xs f p s short c.in-ok-lower.ensures;
+      answer = c.handed_up.ensures ∙ ap handed_up c.put.ensures.answer ∙ put_passed w.start w.length xs f p s short c.in_ok-lower.ensures;
       memory = window_put w.start w.length xs p b _ short below;
       faults = window_fault_put w.start w.length xs p b _ short below f _ c.put.ensures.faults;
       start = refl;
       length = refl;
       below = below;
-      below-faults = c.put.ensures.faults;
+      below_faults = c.put.ensures.faults;
     }

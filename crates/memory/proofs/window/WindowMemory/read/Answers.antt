@@ -4,15 +4,15 @@ use Rattle.memory.specs.Answers.{handed_up}
 use Rattle.memory.proofs.Windowed.{read_refused, read_passed}
 use Rattle.memory.proofs.window.WindowMemory.read.Goals as goal
 
-pub returns-in-err-lower : goal.returns-in-err-lower
-returns-in-err-lower g c =
+pub returns-in_err-lower : goal.returns-in_err-lower
+returns-in_err-lower g c =
     let w = c.args.self.now in
-    let r = err_from_is_err_and c.from-residual.result c.from-residual.ensures.1 in
+    let r = err_from_is_err_and c.from_residual.result c.from_residual.ensures.1 in
     r.1 ∙ ap Err r.2
-    ∙ read_refused w.start w.length (g.M.Memory.bytes w.below) (g.M.Memory.fault w.below) c.args.position _ c.in-err-lower.ensures
+    ∙ read_refused w.start w.length (g.M.Memory.bytes w.below) (g.M.Memory.fault w.below) c.args.position _ c.in_err-lower.ensures
 
 pub returns : goal.returns
 returns g c =
     let w = c.args.self.now in
     c.handed_up.ensures ∙ ap handed_up c.read.ensures
-    ∙ read_passed w.start w.length (g.M.Memory.bytes w.below) (g.M.Memory.fault w.below) c.args.position c.in-ok-lower.lower (g.M.Memory.short w.below) c.in-ok-lower.ensures
+    ∙ read_passed w.start w.length (g.M.Memory.bytes w.below) (g.M.Memory.fault w.below) c.args.position c.in_ok-lower.lower (g.M.Memory.short w.below) c.in_ok-lower.ensures
