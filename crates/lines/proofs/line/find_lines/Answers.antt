@@ -1,5 +1,4 @@
-use Rattle.std.proofs.Common.{◌≡◌, ◌≢◌, length, get_or, vec_items, sym, ◌∙◌, arith, rules}
-use Rattle.lines.specs.Lines.{line_end}
+use Rattle.std.proofs.Common.{◌≡◌, vec_items, sym, ◌∙◌, arith, rules}
 use Rattle.lines.proofs.LineLaws.{cut_into_lines}
 use Rattle.lines.proofs.LineSteps.{at_line_end, inside_line, unended, all_ended}
 use Rattle.lines.proofs.line.find_lines.Goals as goal

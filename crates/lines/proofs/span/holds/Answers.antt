@@ -1,4 +1,4 @@
-use Rattle.std.proofs.Common.{◌≡◌, length, get_or, sym, ap, ◌∙◌, arith, take_all}
+use Rattle.std.proofs.Common.{length, get_or, sym, ap, ◌∙◌, arith, take_all}
 use Rattle.std.proofs.lemmas.List.{take_more_same}
 use Rattle.lines.specs.Spans.{span_bytes}
 use Rattle.lines.proofs.Spans.{length_span, get_or_span, same_from_equal, differ_from_unequal}
