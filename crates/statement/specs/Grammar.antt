@@ -10,7 +10,7 @@
 --   ReadRight xs         a lawful line is read as what it says; any other, up to the first byte with which no lawful line goes on
 use Rattle.std.specs.Prelude.{◌≡◌, ℕ, ◌+◌, ◌<◌, ◌≤◌, Bool, true, cond, List, [], ◌∷◌, ◌++◌, length, take, ℤ, Ok, Err}
 use Rattle.std.specs.Char.{is_ascii_digit}
-use Rattle.std.specs.List.{AllByRecursion as All}
+use Rattle.std.specs.List.{AllByRecursion}
 use Rattle.statement.specs.Amounts.{decimal, most_digits, signed}
 use Rattle.statement.specs.Records.{record_of}
 use Rattle.statement.specs.declared.malformed.Malformed.{Malformed}
@@ -22,7 +22,7 @@ abbrev pub sign : Bool → List ℕ
 sign minus = cond minus (45 ∷ []) []
 
 abbrev pub AllDigits : List ℕ → Type 0
-AllDigits ds = All (λ b. is_ascii_digit b ≡ true) ds
+AllDigits ds = AllByRecursion (λ b. is_ascii_digit b ≡ true) ds
 
 pub record Spells (a : List ℕ) (z : ℤ) : Type 0 where
   pub minus : Bool

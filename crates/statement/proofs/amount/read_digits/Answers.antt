@@ -1,4 +1,4 @@
-use Rattle.std.proofs.Common.{◌≡◌, ◌+◌, ◌-◌, ◌<◌, true, length, get_or, drop, sym, ap, ◌∙◌, ⊎_elim, arith, length-drop, get_or-drop}
+use Rattle.std.proofs.Common.{◌≡◌, true, length, get_or, drop, sym, ap, ◌∙◌, ⊎_elim, arith, length-drop, get_or-drop}
 use Rattle.std.proofs.lemmas.Bool.{cases_lt}
 use Rattle.std.specs.Char.{is_ascii_digit}
 use Rattle.statement.proofs.DigitSteps.{digit_below, decimal_room, decimal_small, decimal_more, leading_more, leading_stops, leading_ends}
