@@ -8,9 +8,8 @@ use Rattle.statement.specs.declared.record.Record.TheVariants.{Payment}
 use Rattle.statement.specs.declared.record.Worded.{Worded}
 use Rattle.matching.specs.Invoices.{invoices_of, unread}
 use Rattle.matching.specs.Pairings.{judged, entries_from, entries_of, invoices_after, settled_invoices}
-use Rattle.matching.specs.Reconciliation.{EqualPair, Reconciled, no_line, no_outcome, outcome_at, line_at}
+use Rattle.matching.specs.Reconciliation.{EqualPair, Reconciled, no_line, outcome_at}
 use Rattle.matching.specs.declared.entry.Entry.{Entry}
-use Rattle.matching.specs.declared.entry.Outcome.{Outcome}
 use Rattle.matching.specs.declared.entry.Outcome.TheVariants.{Paired}
 use Rattle.matching.specs.declared.invoice.Claim.{Claim}
 use Rattle.matching.specs.declared.invoice.Invoice.{Invoice}

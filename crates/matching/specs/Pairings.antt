@@ -10,7 +10,7 @@
 --   invoices_after xs ys k is ls  the invoices after these lines
 --   entries_of xs ys              what becomes of every line of the statement
 --   settled_invoices xs ys        the invoices after the whole statement
-use Rattle.std.specs.Prelude.{ℕ, ◌+◌, Bool, true, false, cond, ◌&&◌, List, [], ◌∷◌, ℤ, pos, negsuc, Some, None, Ok, Err, Option, Result, ◌==◌, slice_index_or, slice_set}
+use Rattle.std.specs.Prelude.{ℕ, ◌+◌, Bool, false, cond, ◌&&◌, List, [], ◌∷◌, ℤ, pos, negsuc, Some, None, Ok, Err, Option, Result, ◌==◌, slice_index_or, slice_set}
 use Rattle.lines.specs.Lines.{line_bytes, lines_of}
 use Rattle.lines.specs.Spans.{span_bytes, same_bytes}
 use Rattle.statement.specs.Records.{ended_record, part_bytes}

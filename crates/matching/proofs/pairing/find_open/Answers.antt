@@ -1,4 +1,4 @@
-use Rattle.std.proofs.Common.{◌≡◌, sym, ◌∙◌, arith}
+use Rattle.std.proofs.Common.{sym, ◌∙◌, arith}
 use Rattle.matching.proofs.FirstOpen.{first_here, first_later, first_nowhere}
 use Rattle.matching.proofs.pairing.find_open.Goals as goal
 
