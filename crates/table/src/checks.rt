@@ -57,6 +57,7 @@ impl Table {
     }
 
     // The place of a new block, which ends inside the working part.
+    #[tactic(auto, using(crate::proofs::LowestPlace::place_inside))]
     pub fn place_for(&self, size: u64, row: u8) -> Result<u32, Fault>
         ensures answer { result ≡ place_check self.now size row }
         ensures inside { IfOk result (λ place. place + size ≤ self.now.limit) }

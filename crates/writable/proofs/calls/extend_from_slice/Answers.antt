@@ -7,10 +7,10 @@ use Rattle.table.proofs.Passing.{memory_reaches}
 use Rattle.reserve.proofs.RoomFacts.{room_roomy}
 use Rattle.writable.proofs.calls.extend_from_slice.Given as given
 use Rattle.writable.proofs.calls.extend_from_slice.Goals as goal
-use Rattle.writable.proofs.calls.extend_from_slice.Goals.{In-ok-room}
+use Rattle.writable.proofs.calls.extend_from_slice.Goals.{In_ok-room}
 
 -- the slice goes behind the bytes shown, in the memory
-behind : (g : given.Over) (c : In-ok-room g) → (c.in_ok-room.room.handle.start + c.in_ok-room.room.handle.len + length c.args.source.now ≤ length (g.M.Memory.bytes c.make_room.new.mem)) × (c.in_ok-room.room.handle.start + c.in_ok-room.room.handle.len + length c.args.source.now ≤ 16777216)
+behind : (g : given.Over) (c : In_ok-room g) → (c.in_ok-room.room.handle.start + c.in_ok-room.room.handle.len + length c.args.source.now ≤ length (g.M.Memory.bytes c.make_room.new.mem)) × (c.in_ok-room.room.handle.start + c.in_ok-room.room.handle.len + length c.args.source.now ≤ 16777216)
 behind g c =
     let t = c.args.table.now in
     let m = g.M.Memory.bytes c.args.mem.now in
@@ -22,13 +22,13 @@ behind g c =
     (omega arith, omega arith)
 
 pub overflow_add-handle : goal.overflow_add-handle
-overflow_add-handle g c = omega (arith, (behind g (goal.at.overflow_add-handle g c).In-ok-room).1)
+overflow_add-handle g c = omega (arith, (behind g (goal.at.overflow_add-handle g c).In_ok-room).1)
 
 pub write_bytes-requires : goal.write_bytes-requires
-write_bytes-requires g c = omega (arith, (behind g (goal.at.write_bytes-requires g c).In-ok-room).0)
+write_bytes-requires g c = omega (arith, (behind g (goal.at.write_bytes-requires g c).In_ok-room).0)
 
 pub overflow_cast-longer : goal.overflow_cast-longer
-overflow_cast-longer g c = omega (arith, (behind g (goal.at.overflow_cast-longer g c).In-ok-room).1)
+overflow_cast-longer g c = omega (arith, (behind g (goal.at.overflow_cast-longer g c).In_ok-room).1)
 
 pub overflow_add-longer : goal.overflow_add-longer
-overflow_add-longer g c = omega (arith, (behind g (goal.at.overflow_add-longer g c).In-ok-room).1)
+overflow_add-longer g c = omega (arith, (behind g (goal.at.overflow_add-longer g c).In_ok-room).1)

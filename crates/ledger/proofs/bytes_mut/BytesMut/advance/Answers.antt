@@ -13,8 +13,8 @@ advance-requires c =
     let w = handled t c.args.self.now.row h k.held (sound_opens t c.args.ledger.now.sound) _ refl in
     record { small = omega arith; shows = w.shows }
 
-pub invariant-of-ledger : goal.invariant-of-ledger
-invariant-of-ledger c =
+pub invariant_of-ledger : goal.invariant_of-ledger
+invariant_of-ledger c =
     let t = c.args.ledger.now.table in
     let k = known t c.args.self.now c.in_ok-handle.handle (sym c.in_ok-handle.ensures) in
-    (sound_after t _ _ (sound_opens t c.args.ledger.now.sound) (ap (λ r. r.1) c.advance.ensures) (λ s. advance_sound t c.args.self.now.row c.in_ok-handle.handle c.args.count s k.held), tt)
+    record { sound = sound_after t _ _ (sound_opens t c.args.ledger.now.sound) (ap (λ r. r.1) c.advance.ensures) (λ s. advance_sound t c.args.self.now.row c.in_ok-handle.handle c.args.count s k.held) }

@@ -4,9 +4,9 @@ use Rattle.table.proofs.SoundSingle.{sound_opens}
 use Rattle.ledger.proofs.Knowing.{known, sound_after}
 use Rattle.ledger.proofs.bytes_mut.BytesMut.split_off.Goals as goal
 
-pub invariant-of-ledger : goal.invariant-of-ledger
-invariant-of-ledger c =
+pub invariant_of-ledger : goal.invariant_of-ledger
+invariant_of-ledger c =
     let t = c.args.ledger.now.table in
     let h = c.in_ok-handle.handle in
     let k = known t c.args.self.now h (sym c.in_ok-handle.ensures) in
-    (sound_after t _ _ (sound_opens t c.args.ledger.now.sound) (ap (λ r. r.1) c.split_off.ensures) (λ s. split_off_sound t c.args.self.now.row h s k.held c.args.at), tt)
+    record { sound = sound_after t _ _ (sound_opens t c.args.ledger.now.sound) (ap (λ r. r.1) c.split_off.ensures) (λ s. split_off_sound t c.args.self.now.row h s k.held c.args.at) }

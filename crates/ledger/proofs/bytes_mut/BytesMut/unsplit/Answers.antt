@@ -4,8 +4,8 @@ use Rattle.table.proofs.SoundSingle.{sound_opens}
 use Rattle.ledger.proofs.Knowing.{known_both, sound_after}
 use Rattle.ledger.proofs.bytes_mut.BytesMut.unsplit.Goals as goal
 
-pub invariant-of-ledger : goal.invariant-of-ledger
-invariant-of-ledger g c =
+pub invariant_of-ledger : goal.invariant_of-ledger
+invariant_of-ledger g c =
     let t = c.args.ledger.now.table in
     let k = known_both t c.args.self.now c.args.other (c.in-Ok.first, c.in-Ok.second) (sym c.in-Ok.ensures) in
-    (sound_after t _ _ (sound_opens t c.args.ledger.now.sound) (ap (λ r. r.1) c.unsplit.ensures.does) (λ s. unsplit_sound t c.args.self.now.row c.args.other.row c.in-Ok.first c.in-Ok.second s k.held k.other_held k.two (g.M.Memory.bytes c.args.mem.now) (g.G.Growth.answer c.args.growth.now) (g.met.G.Growth.enough c.args.growth.now) (g.M.Memory.fault c.args.mem.now)), tt)
+    record { sound = sound_after t _ _ (sound_opens t c.args.ledger.now.sound) (ap (λ r. r.1) c.unsplit.ensures.does) (λ s. unsplit_sound t c.args.self.now.row c.args.other.row c.in-Ok.first c.in-Ok.second s k.held k.other_held k.two (g.M.Memory.bytes c.args.mem.now) (g.G.Growth.answer c.args.growth.now) (g.met.G.Growth.enough c.args.growth.now) (g.M.Memory.fault c.args.mem.now)) }

@@ -3,7 +3,7 @@ use Rattle.table.proofs.SoundSteps.{sound_opened}
 use Rattle.ledger.proofs.Knowing.{sound_after}
 use Rattle.ledger.proofs.ledger.Ledger.open.Goals as goal
 
-pub invariant-of-self : goal.invariant-of-self
-invariant-of-self c =
+pub invariant_of-self : goal.invariant_of-self
+invariant_of-self c =
     let t = c.args.self.now.table in
-    (sound_after t _ _ (sound_opens t c.args.self.now.sound) c.open.ensures (λ s. sound_opened t c.args.number c.args.fixed c.args.limit s c.if-self.false c.if-fixed-limit.false c.if-limit-gt-MOST.false), tt)
+    record { sound = sound_after t _ _ (sound_opens t c.args.self.now.sound) c.open.ensures (λ s. sound_opened t c.args.number c.args.fixed c.args.limit s c.if-self.false c.if-fixed-limit.false c.if-limit-gt-MOST.false) }
