@@ -1,12 +1,11 @@
 -- One line more of a statement that passes by, and its end.
-use Rattle.std.proofs.Common.{◌≡◌, ℕ, ◌+◌, ◌-◌, ◌<◌, ◌≤◌, Bool, true, false, List, [], ◌∷◌, ◌++◌, length, take, drop, vec_items, vec_len, sym, refl, ap, ◌∙◌, subst, append_assoc, arith}
+use Rattle.std.proofs.Common.{◌≡◌, ℕ, ◌+◌, ◌-◌, ◌<◌, Bool, true, false, List, [], ◌∷◌, ◌++◌, length, take, drop, vec_items, vec_len, sym, ap, ◌∙◌, subst, append_assoc, arith}
 use lib.Seq.{take-append_seam, drop-append-add}
 use Rattle.std.proofs.lemmas.List.{append-nil, drop-drop, nil_from_length}
 use Rattle.std.proofs.lemmas.Bool.{le-ltb, lt-ltb, ne_eqb}
 use Rattle.lines.specs.Lines.{line, line_bytes, line_end, lines_from}
 use Rattle.lines.specs.declared.line.Line.{Line}
 use Rattle.matching.specs.Pairings.{entries_from, entries_of, invoices_after, judged, settled_invoices}
-use Rattle.matching.specs.declared.entry.Entry.{Entry}
 use Rattle.matching.specs.declared.invoice.Invoice.{Invoice}
 use Rattle.fetching.specs.Fetches.{CutOff, NoEnd}
 use Rattle.fetching.specs.Passages.{Carries, Entered, Underway, entry_of}

@@ -5,11 +5,11 @@
 --   Fetched v o v'       what is shown goes from v to v' as o is fetched: a line that is cut off, or none where there is no end
 use Rattle.std.specs.Prelude.{◌≡◌, ℕ, ◌<◌, List, ◌∷◌, ◌++◌, length, take, Some, None, vec_items, Option, Vec, ◌≢◌, slice_index_or}
 use Rattle.std.specs.declared.alloc.Global.{Global}
-use Rattle.std.specs.List.{AllByRecursion as All}
+use Rattle.std.specs.List.{AllByRecursion}
 use Rattle.lines.specs.Lines.{line_end}
 
 abbrev pub NoEnd : List ℕ → Type 0
-NoEnd bs = All (λ b. b ≢ line_end) bs
+NoEnd bs = AllByRecursion (λ b. b ≢ line_end) bs
 
 pub record StandsFirst (bs : List ℕ) (i : ℕ) : Type 0 where
   pub inside : i < length bs

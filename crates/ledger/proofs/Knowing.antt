@@ -1,10 +1,9 @@
 -- What a ledger that knows a token tells of its handle.
-use Rattle.std.proofs.Common.{◌≡◌, ℕ, Bool, true, false, cond, eqb, ◌≢◌, Some, None, Ok, Err, Option, Result, sym, refl, ap, ◌∙◌, subst, arith}
+use Rattle.std.proofs.Common.{◌≡◌, ℕ, Bool, true, false, cond, eqb, ◌≢◌, None, Ok, Err, Result, sym, refl, ap, ◌∙◌, subst}
 use Rattle.std.proofs.lemmas.Bool.{eqb-false}
-use Rattle.std.proofs.lemmas.Bool.Decides.{nat_tests}
 use Rattle.std.specs.Option.{ok_or}
 use Rattle.table.proofs.Passing.{and_then_passed, refused_ok}
-use Rattle.table.specs.Checks.{and_then, open_check}
+use Rattle.table.specs.Checks.{and_then}
 use Rattle.table.specs.Soundness.{Sound}
 use Rattle.table.specs.Tables.{handle_at}
 use Rattle.faults.specs.declared.Fault.{Fault}

@@ -2,9 +2,7 @@
 use Rattle.std.proofs.Common.{◌≡◌, ℕ, List, Ok, Err, Decides, Result, sym, refl, ap, ◌∙◌, subst, arith}
 use Rattle.memory.specs.declared.fault.MemoryFault.{MemoryFault}
 use Rattle.table.specs.Checks.{memory_check, or_refuse_with}
-use Rattle.rows.specs.Rows.{block_in}
 use Rattle.table.specs.Soundness.{Sound}
-use Rattle.table.specs.Tables.{block_at}
 use Rattle.faults.specs.declared.Fault.{Fault}
 use Rattle.rows.specs.declared.block.Block.{Block}
 use Rattle.rows.specs.declared.handle.WritableHandle.{WritableHandle}

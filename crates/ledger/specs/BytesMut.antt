@@ -16,7 +16,7 @@ use Rattle.rows.specs.declared.handle.HandleRow.{HandleRow}
 use Rattle.rows.specs.declared.handle.HandleRow.TheVariants as row
 use Rattle.rows.specs.declared.handle.WritableHandle.{WritableHandle}
 use Rattle.table.specs.declared.table.Table.{Table}
-use Rattle.writable.specs.Calls.{advance_of, buffer_after, extend_of, from_of, read_of, reserve_of, truncate_of, try_reclaim_of, with_capacity_of}
+use Rattle.writable.specs.Calls.{advance_of, extend_of, from_of, read_of, reserve_of, truncate_of, try_reclaim_of, with_capacity_of}
 use Rattle.reserve.specs.declared.room.Reclaim.{Reclaim}
 use Rattle.splitting.specs.Joins.{try_unsplit_of, unsplit_of}
 use Rattle.splitting.specs.Splits.{split_off_of, split_to_of}

@@ -1,5 +1,5 @@
 mod FirstOpen
 mod Judging
 mod LineTexts
-mod Reconciling
+pub mod Reconciling
 mod Turns

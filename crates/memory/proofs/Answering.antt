@@ -1,5 +1,5 @@
 -- A memory's answer, from the side of its size that the position is on.
-use Rattle.std.proofs.Common.{◌≡◌, ℕ, ◌<◌, ◌≤◌, List, length, get_or, Ok, Err, Result, ap}
+use Rattle.std.proofs.Common.{◌≡◌, ℕ, ◌<◌, ◌≤◌, List, length, get_or, Ok, Err, ap}
 use Rattle.std.proofs.lemmas.Bool.{lt-ltb, le-ltb}
 use Rattle.memory.specs.Answers.{read_answer, put_answer}
 use Rattle.memory.specs.declared.fault.MemoryFault.{MemoryFault}

@@ -1,5 +1,5 @@
 -- A window's bytes, faults and answers, from those of the memory below.
-use Rattle.std.proofs.Common.{◌≡◌, ℕ, ◌+◌, ◌-◌, ◌^◌, ◌<◌, ◌≤◌, min, cond, ltb, List, length, get_or, take, drop, set, Ok, Err, Result, sym, ap, ◌∙◌, ⊎_elim, arith, length-drop, length-set, length-take, get_or-drop, get_or-take}
+use Rattle.std.proofs.Common.{◌≡◌, ℕ, ◌+◌, ◌-◌, ◌^◌, ◌<◌, ◌≤◌, min, cond, ltb, List, length, get_or, take, drop, set, Ok, Err, sym, ap, ◌∙◌, ⊎_elim, arith, length-drop, length-set, length-take, get_or-drop, get_or-take}
 use lib.Seq.{take-set-lt, drop-set-add}
 use Rattle.std.proofs.lemmas.List.{set_past}
 use Rattle.std.proofs.lemmas.Bool.Decides.{nat_tests}

@@ -1,26 +1,25 @@
 -- The turns of the calls that cut a writable handle in two keep what a run keeps.
-use Rattle.std.proofs.Common.{◌≡◌, ℕ, ◌+◌, ◌<◌, ◌≤◌, true, leb, List, [], length, take, drop, Ok, Err, Result, sym, refl, ap, ◌∙◌, subst, arith}
+use Rattle.std.proofs.Common.{◌≡◌, ℕ, ◌+◌, ◌<◌, ◌≤◌, true, leb, List, length, take, drop, Result, sym, ap, ◌∙◌, arith}
 use Rattle.faults.specs.declared.Fault.{Fault}
 use Rattle.ledger.proofs.Knowing.{known}
 use Rattle.ledger.specs.BytesMut.{tokened, writable_check}
 use Rattle.ledger.specs.declared.bytes_mut.BytesMut.{BytesMut}
 use Rattle.memory.specs.declared.fault.MemoryFault.{MemoryFault}
 use Rattle.reserve.proofs.HandlesSound.{over}
-use Rattle.rows.specs.Rows.{block_of, blocked, handle_free, len_of, start_of}
+use Rattle.rows.specs.Rows.{blocked, handle_free, start_of}
 use Rattle.rows.specs.declared.handle.HandleRow.TheVariants as row
 use Rattle.rows.specs.declared.handle.WritableHandle.{WritableHandle}
 use Rattle.splitting.proofs.SplitsSound.{shares_back, shares_front}
-use Rattle.splitting.specs.Splits.{back, cut_in_two, front, split_off_of, split_to_of}
+use Rattle.splitting.specs.Splits.{back, cut_in_two, front, split_to_of}
 use Rattle.std.proofs.lemmas.List.{drop_all, take_all}
 use Rattle.table.proofs.Passing.{handle_row_passed, range_passed, table_after}
 use Rattle.table.proofs.SoundShared.{Shares, cut_sound, sound_shared}
 use Rattle.table.specs.Checks.{handle_row_check, range_check}
-use Rattle.table.specs.Soundness.{Sound}
 use Rattle.table.specs.Tables.{handle_at}
 use Rattle.table.specs.declared.table.Table.{Table}
 use Rattle.promises.proofs.BookSteps.{kept_relisted}
 use Rattle.promises.proofs.Kept.{Kept}
-use Rattle.promises.proofs.SharedSteps.{Beside, kept_shared}
+use Rattle.promises.proofs.SharedSteps.{kept_shared}
 use Rattle.promises.proofs.Showing.{handle_whole, list_shown, part_first, part_rest, whole_first, whole_rest}
 use Rattle.promises.proofs.TableTurns.{KeptAfter, KeptIn, TurnKept, refused}
 use Rattle.promises.specs.Book.{enter, list_of}

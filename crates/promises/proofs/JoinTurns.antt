@@ -1,11 +1,10 @@
 -- The turns of the calls that join two writable handles keep what a run keeps.
-use Rattle.std.proofs.Common.{◌≡◌, ℕ, ◌+◌, ◌<◌, ◌≤◌, Bool, true, false, cond, eqb, ◌≢◌, List, [], ◌++◌, length, get_or, take, drop, set, Some, None, Ok, Err, Result, sym, refl, ap, ◌∙◌, subst, arith}
+use Rattle.std.proofs.Common.{◌≡◌, ℕ, ◌+◌, ◌<◌, ◌≤◌, true, cond, eqb, ◌≢◌, List, [], ◌++◌, length, get_or, take, drop, set, Some, None, Ok, Err, Result, sym, refl, ap, ◌∙◌, subst, arith}
 use lib.Seq.{paste}
 use Rattle.faults.specs.declared.Fault.{Fault}
 use Rattle.ledger.proofs.Knowing.{KnownPair, known_both}
 use Rattle.ledger.specs.BytesMut.{handed_back, joining, pair_check, try_unsplit_known, unsplit_known}
 use Rattle.ledger.specs.declared.bytes_mut.BytesMut.{BytesMut}
-use Rattle.ledger.specs.declared.bytes_mut.Refused.{Refused as Returned}
 use Rattle.memory.specs.declared.fault.MemoryFault.{MemoryFault}
 use Rattle.reserve.proofs.HandleFacts.{handled}
 use Rattle.reserve.proofs.HandlesSound.{over, row_known, sound_cut}
@@ -13,17 +12,17 @@ use Rattle.reserve.proofs.RoomOthers.{room_elsewhere}
 use Rattle.reserve.proofs.RoomsSound.{Roomy, room_enough, room_sound}
 use Rattle.reserve.specs.Rooms.{copied, room_of}
 use Rattle.reserve.specs.declared.room.Room.{Room}
-use Rattle.rows.specs.Rows.{block_in, block_of, blocked, handle_free, len_of, place_of, start_of}
+use Rattle.rows.specs.Rows.{block_in, block_of, blocked, handle_free, place_of, start_of}
 use Rattle.rows.specs.declared.handle.HandleRow.TheVariants as row
 use Rattle.rows.specs.declared.handle.WritableHandle.{WritableHandle}
 use Rattle.splitting.proofs.JoinsSound.{Follows, following, merged_sound, taken_over_sound}
-use Rattle.splitting.specs.Joins.{appended, follows, joined_by, joint_of, merged, taken_over, try_unsplit_by, try_unsplit_of, unsplit_of}
+use Rattle.splitting.specs.Joins.{appended, follows, joined_by, joint_of, merged, taken_over, try_unsplit_by, unsplit_of}
 use Rattle.splitting.specs.declared.unsplit.Joint.{Joint}
 use Rattle.splitting.specs.declared.unsplit.Joint.TheVariants.{Nothing, Adjacent, Apart}
 use Rattle.std.proofs.lemmas.List.{append-nil, get_or-set_other, length-append, set_comm, set-get_or, set-set, take-take}
 use Rattle.std.proofs.lemmas.Bool.{cond_both, eqb-false, eqb-true}
 use Rattle.table.proofs.Passing.{both_after, memory_reaches}
-use Rattle.table.proofs.SoundShared.{detached_elsewhere, detached_here}
+use Rattle.table.proofs.SoundShared.{detached_elsewhere}
 use Rattle.table.proofs.SoundSteps.{sound_detach}
 use Rattle.table.specs.Checks.{memory_check}
 use Rattle.table.specs.Soundness.{Sound}

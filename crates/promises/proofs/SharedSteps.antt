@@ -1,13 +1,13 @@
 -- What is kept where handles share a block, where one goes to another row, and where two become one. The memory stays.
-use Rattle.std.proofs.Common.{◌≡◌, ℕ, ◌+◌, ◌<◌, ◌≤◌, true, false, ◌≢◌, List, length, get_or, set, None, sym, refl, ap, ◌∙◌, subst, arith}
-use Rattle.rows.specs.Rows.{blocked, block_of, handle_free, len_of, place_of, raised, start_of}
+use Rattle.std.proofs.Common.{◌≡◌, ℕ, ◌+◌, ◌<◌, ◌≤◌, true, false, List, length, get_or, set, None, sym, refl, ◌∙◌, subst, arith}
+use Rattle.rows.specs.Rows.{blocked, block_of, len_of, place_of, raised, start_of}
 use Rattle.rows.specs.declared.block.BlockRow.TheVariants as block
 use Rattle.rows.specs.declared.handle.HandleRow.{HandleRow}
 use Rattle.rows.specs.declared.handle.HandleRow.TheVariants as row
 use Rattle.std.proofs.lemmas.List.{get_or-set_other, get_or-set_same, length-set}
 use Rattle.std.proofs.lemmas.Bool.{true≢false}
 use Rattle.table.proofs.Sets.{at_set}
-use Rattle.table.proofs.SoundSteps.{blocked_live, live_row, raised_same}
+use Rattle.table.proofs.SoundSteps.{blocked_live, raised_same}
 use Rattle.table.specs.Soundness.{Sound}
 use Rattle.table.specs.Tables.{attach, block_at, handle_at, with_handle}
 use Rattle.table.specs.declared.table.Table.{Table}

@@ -1,22 +1,13 @@
 -- Parts of the bytes, and what a token's handle and its list in the book are.
-use Rattle.std.proofs.Common.{◌≡◌, ℕ, ◌+◌, ◌-◌, ◌<◌, ◌≤◌, min, true, false, cond, eqb, leb, List, ◌++◌, length, take, drop, Some, None, Ok, Err, Option, Result, sym, refl, ap, ◌∙◌, subst, inl, inr, arith}
+use Rattle.std.proofs.Common.{◌≡◌, ℕ, ◌+◌, ◌-◌, ◌≤◌, min, false, List, ◌++◌, length, take, drop, Some, sym, refl, ap, ◌∙◌, subst, inl, inr, arith}
 use Rattle.std.proofs.lemmas.List.{drop_all, drop-drop, drop-take, length-drop, length-take, length-take-le, take_all, take-append-drop, take-take}
-use Rattle.std.proofs.lemmas.Bool.{cases_lt, cond_both, true≢false}
-use Rattle.std.proofs.lemmas.Bool.Decides.{nat_tests}
-use Rattle.std.specs.Option.{ok_or}
-use Rattle.rows.proofs.Highest.{highest_is}
-use Rattle.table.specs.Checks.{and_then, block_row_check, handle_row_check, open_check, range_check}
-use Rattle.rows.specs.Rows.{block_free, handle_free, len_of, start_of}
-use Rattle.table.specs.Tables.{block_at, handle_at}
-use Rattle.faults.specs.declared.Fault.{Fault}
-use Rattle.faults.specs.declared.Fault.TheVariants.{UnknownToken}
-use Rattle.rows.specs.declared.block.BlockRow.TheVariants as block
+use Rattle.std.proofs.lemmas.Bool.{cases_lt, true≢false}
+use Rattle.rows.specs.Rows.{handle_free, len_of, start_of}
+use Rattle.table.specs.Tables.{handle_at}
 use Rattle.rows.specs.declared.handle.HandleRow.{HandleRow}
 use Rattle.rows.specs.declared.handle.HandleRow.TheVariants as row
 use Rattle.rows.specs.declared.handle.WritableHandle.{WritableHandle}
 use Rattle.table.specs.declared.table.Table.{Table}
-use Rattle.ledger.specs.BytesMut.{writable_check, writable_in}
-use Rattle.ledger.specs.declared.bytes_mut.BytesMut.{BytesMut}
 use Rattle.promises.specs.Book.{Book, list_of, listed, the_list}
 use Rattle.promises.specs.Law.{part}
 use Rattle.promises.proofs.Kept.{Kept, shown_by}

@@ -1,10 +1,9 @@
 -- Every turn leaves a sound table.
-use Rattle.std.proofs.Common.{◌≡◌, ℕ, Bool, true, false, cond, ◌||◌, ltb, List, Ok, Err, Result, sym, refl}
+use Rattle.std.proofs.Common.{◌≡◌, ℕ, ◌||◌, ltb, List, Ok, Err, Result, sym, refl}
 use Rattle.memory.specs.declared.fault.MemoryFault.{MemoryFault}
 use Rattle.std.proofs.lemmas.Bool.{cond_both, ltb-false, or_parts}
 use Rattle.table.specs.Checks.{no_row, open_check, or_refuse, or_refuse_with}
 use Rattle.table.specs.Soundness.{Sound}
-use Rattle.table.specs.Tables.{opened_table}
 use Rattle.faults.specs.declared.Fault.{Fault}
 use Rattle.rows.specs.declared.handle.WritableHandle.{WritableHandle}
 use Rattle.table.specs.declared.table.Table.{Table}

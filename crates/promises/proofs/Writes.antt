@@ -7,9 +7,9 @@ use Rattle.std.proofs.lemmas.List.Sums.{sum_by-set}
 use Rattle.std.proofs.lemmas.Bool.{cases_Bool, cases_eq, cond_both, leb-true, true≢false}
 use Rattle.table.proofs.Positions.{capacity_apart, starts_above}
 use Rattle.table.proofs.Sets.{at_set}
-use Rattle.table.proofs.SoundSteps.{alone, block_live, block_under, ends_inside, free_handle_is, live_opened, live_row, unheld, writable_blocked}
+use Rattle.table.proofs.SoundSteps.{alone, block_under, ends_inside, free_handle_is, live_opened, live_row, unheld}
 use Rattle.rows.specs.Rows.{block_free, block_in, block_of, blocked, count_of, extent_of, handle_free, len_of, lowered, place_of, start_of, writable}
-use Rattle.table.specs.Soundness.{InBlock, InHandle, Sound}
+use Rattle.table.specs.Soundness.{Sound}
 use Rattle.table.specs.Tables.{block_at, detach, handle_at, let_go, settle, with_block, with_handle}
 use Rattle.rows.specs.declared.block.Block.{Block}
 use Rattle.rows.specs.declared.block.BlockRow.{BlockRow}

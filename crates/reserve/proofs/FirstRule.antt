@@ -1,5 +1,5 @@
 -- The rule taken is the first that fits.
-use Rattle.std.proofs.Common.{◌≡◌, ℕ, ◌-◌, ◌*◌, ◌<◌, max, Bool, true, false, cond, ◌&&◌, eqb, leb, refl, ap, arith}
+use Rattle.std.proofs.Common.{◌≡◌, ℕ, ◌-◌, ◌*◌, ◌<◌, max, Bool, cond, ◌&&◌, eqb, leb, refl, ap, arith}
 use Rattle.std.proofs.lemmas.Bool.Decides.{nat_tests}
 use Rattle.rows.specs.Classes.{restored}
 use Rattle.rows.specs.Rows.{kind_own}
@@ -7,8 +7,8 @@ use Rattle.rows.specs.declared.block.Block.{Block}
 use Rattle.rows.specs.declared.handle.WritableHandle.{WritableHandle}
 use Rattle.rows.specs.declared.handle.WritableKind.{WritableKind}
 use Rattle.rows.specs.declared.handle.WritableKind.TheVariants.{Own, Counted}
-use Rattle.reserve.specs.RuleTable.{FirstThatFits, first_of, rules}
-use Rattle.reserve.specs.Rules.{may_slide, need, rule_by, rule_of, wanted}
+use Rattle.reserve.specs.RuleTable.{FirstThatFits}
+use Rattle.reserve.specs.Rules.{may_slide, need, rule_by, wanted}
 use Rattle.reserve.specs.declared.rules.ReserveRule.{ReserveRule}
 use Rattle.reserve.specs.declared.rules.ReserveRule.TheVariants.{Keep, Slide, Grow, Widen, MoveOut}
 

@@ -1,16 +1,12 @@
 -- What a sound table tells of a writable handle, and of the way to a place that was found.
-use Rattle.std.proofs.Common.{◌≡◌, ℕ, ◌+◌, ◌-◌, ◌*◌, ◌<◌, ◌≤◌, max, true, false, cond, leb, ◌⊎◌, List, length, Some, None, Ok, Option, sym, refl, ap, ◌∙◌, subst, inl, inr, ⊎_elim, arith}
+use Rattle.std.proofs.Common.{◌≡◌, ℕ, ◌+◌, ◌-◌, ◌*◌, ◌<◌, ◌≤◌, max, true, false, cond, leb, ◌⊎◌, Some, Ok, sym, refl, ap, ◌∙◌, subst, inl, inr, ⊎_elim, arith}
 use Rattle.std.proofs.lemmas.Bool.{and_parts, cases_lt, cond_both, leb-true}
-use Rattle.memory.specs.declared.fault.MemoryFault.{MemoryFault}
-use Rattle.std.proofs.lemmas.Bool.Decides.{nat_tests}
-use Rattle.std.specs.Option.{ok_or}
-use Rattle.table.specs.Checks.{memory_check, place_check}
+use Rattle.table.specs.Checks.{place_check}
 use Rattle.table.specs.PlaceLaw.{place_for}
 use Rattle.rows.specs.Rows.{block_free, block_in, block_of, blocked, count_of, kind_own, place_of, size_of}
 use Rattle.table.specs.Soundness.{Fits, Placed, RoomAt, Sound}
 use Rattle.table.specs.Tables.{block_at, handle_at}
 use Rattle.rows.specs.Classes.{restored}
-use Rattle.faults.specs.declared.Fault.{Fault}
 use Rattle.faults.specs.declared.Fault.TheVariants.{NoPlace}
 use Rattle.rows.specs.declared.block.Block.{Block}
 use Rattle.rows.specs.declared.block.BlockRow.{BlockRow}
@@ -21,7 +17,7 @@ use Rattle.rows.specs.declared.handle.WritableHandle.{WritableHandle}
 use Rattle.rows.specs.declared.handle.WritableKind.{WritableKind}
 use Rattle.rows.specs.declared.handle.WritableKind.TheVariants.{Own, Counted}
 use Rattle.table.specs.declared.table.Table.{Table}
-use Rattle.table.proofs.LowestPlace.{place_found, place_inside}
+use Rattle.table.proofs.LowestPlace.{place_found}
 use Rattle.table.proofs.Passing.{ok_some}
 use Rattle.table.proofs.SoundSteps as steps
 use Rattle.reserve.specs.Rules.{may_slide, need, offset, rule_by, rule_of, wanted}

@@ -1,17 +1,12 @@
 -- A writable handle that is changed, or put over another block, leaves a sound table.
-use Rattle.std.proofs.Common.{◌≡◌, ℕ, ◌+◌, ◌<◌, ◌≤◌, Bool, true, false, cond, leb, length, Some, None, Ok, Err, Option, sym, refl, ap, ◌∙◌, subst, arith}
+use Rattle.std.proofs.Common.{◌≡◌, ℕ, ◌+◌, ◌<◌, ◌≤◌, true, leb, length, sym, refl, ap, ◌∙◌, subst, arith}
 use Rattle.std.proofs.lemmas.List.{get_or-set_same, length-set}
 use Rattle.std.proofs.lemmas.Bool.{cond_both, false≢true, true≢false}
-use Rattle.std.specs.Option.{ok_or}
-use Rattle.rows.proofs.Highest.{highest_is}
-use Rattle.table.proofs.LowestPlace.{place_found}
 use Rattle.table.proofs.Sets.{at_set}
-use Rattle.table.proofs.SoundSteps.{block_under, held, live_opened, live_row, sound_detach, sound_grown_in_place, sound_regrow, sound_reshape, sound_settle}
-use Rattle.table.specs.Checks.{block_row_check, handle_row_check, place_check}
+use Rattle.table.proofs.SoundSteps.{block_under, live_opened, live_row, sound_detach, sound_grown_in_place, sound_regrow, sound_reshape, sound_settle}
 use Rattle.rows.specs.Rows.{block_free, block_in, block_of, blocked, class_in, count_of, extent_of, handle_free, kind_own, lone, lowered, place_of, size_of, start_of, writable}
 use Rattle.table.specs.Soundness.{Fits, In, InBlock, RoomAt, Sound}
 use Rattle.table.specs.Tables.{block_at, detach, handle_at, let_go, settle, with_block, with_handle}
-use Rattle.table.proofs.Passing.{block_row_passed, handle_row_passed, place_passed}
 use Rattle.reserve.proofs.HandleFacts.{Handled, handled}
 use Rattle.rows.specs.declared.block.Block.{Block}
 use Rattle.rows.specs.declared.block.BlockRow.{BlockRow}

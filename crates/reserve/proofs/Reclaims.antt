@@ -1,12 +1,12 @@
 -- The room is reclaimed exactly where the block has it.
-use Rattle.std.proofs.Common.{◌≡◌, ℕ, ◌-◌, ◌<◌, ◌≤◌, Bool, true, false, cond, ◌&&◌, leb, ◌⊎◌, Decides, refl, ap, inl, inr, ⊎_elim, arith}
+use Rattle.std.proofs.Common.{◌≡◌, ℕ, ◌-◌, ◌<◌, ◌≤◌, Bool, true, false, cond, leb, Decides, refl, ap, inl, inr, ⊎_elim, arith}
 use Rattle.std.proofs.lemmas.Bool.{and_from, and_parts, both_ways, cond_both, false≢true, le-leb, leb-false, leb-true}
 use Rattle.rows.specs.Rows.{kind_own}
 use Rattle.rows.specs.declared.block.Block.{Block}
 use Rattle.rows.specs.declared.handle.WritableHandle.{WritableHandle}
 use Rattle.rows.specs.declared.handle.WritableKind.{WritableKind}
 use Rattle.rows.specs.declared.handle.WritableKind.TheVariants.{Own, Counted}
-use Rattle.reserve.specs.Reclaiming.{Reclaimable, Slides, Widens}
+use Rattle.reserve.specs.Reclaiming.{Reclaimable, Slides}
 use Rattle.reserve.specs.Rules.{may_slide, need, offset, rule_by, rule_of, wanted}
 use Rattle.reserve.specs.declared.rules.ReserveRule.{ReserveRule}
 use Rattle.reserve.specs.declared.rules.ReserveRule.TheVariants.{Keep, Slide, Grow, Widen, MoveOut}

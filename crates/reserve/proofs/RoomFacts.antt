@@ -1,16 +1,16 @@
 -- What the room that was made holds.
-use Rattle.std.proofs.Common.{◌≡◌, ℕ, ◌+◌, ◌-◌, ◌≤◌, true, false, cond, leb, List, length, drop, Ok, Err, Result, sym, refl, ap, ◌∙◌, subst, arith, length-drop}
+use Rattle.std.proofs.Common.{◌≡◌, ℕ, ◌+◌, ◌-◌, ◌≤◌, List, length, drop, Ok, Err, Result, sym, refl, ap, ◌∙◌, subst, arith, length-drop}
 use Rattle.std.proofs.lemmas.List.Edits.{length-paste}
 use Rattle.std.proofs.lemmas.Bool.Decides.{nat_tests}
 use Rattle.table.specs.Checks.{block_row_check, or_refuse_with, place_check}
 use Rattle.rows.specs.Rows.{block_in}
-use Rattle.table.specs.Tables.{block_at, detach, settle}
+use Rattle.table.specs.Tables.{block_at}
 use Rattle.faults.specs.declared.Fault.{Fault}
 use Rattle.rows.specs.declared.block.Block.{Block}
 use Rattle.rows.specs.declared.handle.WritableHandle.{WritableHandle}
 use Rattle.table.specs.declared.table.Table.{Table}
 use Rattle.table.proofs.LowestPlace.{place_inside}
-use Rattle.reserve.specs.Rooms.{carried, copied, grow_of, move_out_of, need_check, room_of}
+use Rattle.reserve.specs.Rooms.{carried, copied, need_check, room_of}
 use Rattle.reserve.specs.Rules.{offset, rule_of}
 use Rattle.reserve.specs.declared.room.Room.{Room}
 use Rattle.reserve.specs.declared.rules.ReserveRule.{ReserveRule}

@@ -1,5 +1,5 @@
 -- Making room for one handle leaves the rows of the others.
-use Rattle.std.proofs.Common.{◌≡◌, ℕ, ◌≢◌, List, set, Ok, Err, Result, refl, ap, ◌∙◌}
+use Rattle.std.proofs.Common.{◌≡◌, ℕ, ◌≢◌, List, Result, refl, ap, ◌∙◌}
 use Rattle.faults.specs.declared.Fault.{Fault}
 use Rattle.rows.specs.Rows.{block_in}
 use Rattle.rows.specs.declared.block.Block.{Block}
@@ -7,7 +7,7 @@ use Rattle.rows.specs.declared.handle.HandleRow.{HandleRow}
 use Rattle.rows.specs.declared.handle.HandleRow.TheVariants.{Free, Writable}
 use Rattle.rows.specs.declared.handle.WritableHandle.{WritableHandle}
 use Rattle.std.proofs.lemmas.List.{get_or-set_other}
-use Rattle.table.specs.Checks.{block_row_check, or_refuse_with, place_check}
+use Rattle.table.specs.Checks.{block_row_check, place_check}
 use Rattle.table.specs.Tables.{block_at, handle_at, let_go, with_handle}
 use Rattle.table.specs.declared.table.Table.{Table}
 use Rattle.table.proofs.Passing.{both_after}

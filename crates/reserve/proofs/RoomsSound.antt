@@ -2,8 +2,8 @@
 use Rattle.std.proofs.Common.{◌≡◌, ℕ, ◌+◌, ◌-◌, ◌<◌, ◌≤◌, true, false, cond, leb, List, IfOk, Ok, Err, Result, sym, refl, ap, ◌∙◌, arith}
 use Rattle.std.proofs.lemmas.Result.{IfOk-at_ok}
 use Rattle.std.proofs.lemmas.Bool.{and_parts, cond_both, leb-false, leb-true, true≢false}
-use Rattle.table.specs.Checks.{block_row_check, or_refuse_with, place_check}
-use Rattle.rows.specs.Rows.{handle_free, kind_own}
+use Rattle.table.specs.Checks.{block_row_check, place_check}
+use Rattle.rows.specs.Rows.{kind_own}
 use Rattle.table.specs.Soundness.{Sound}
 use Rattle.table.specs.Tables.{handle_at, let_go, with_handle}
 use Rattle.faults.specs.declared.Fault.{Fault}

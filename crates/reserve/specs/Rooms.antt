@@ -17,7 +17,6 @@ use Rattle.table.specs.Tables.{block_at, detach, settle, with_handle}
 use Rattle.faults.specs.declared.Fault.{Fault}
 use Rattle.faults.specs.declared.Fault.TheVariants.{NoPlace}
 use Rattle.rows.specs.declared.block.Block.{Block}
-use Rattle.rows.specs.declared.handle.HandleRow.{HandleRow}
 use Rattle.rows.specs.declared.handle.HandleRow.TheVariants.{Writable}
 use Rattle.rows.specs.declared.handle.WritableHandle.{WritableHandle}
 use Rattle.rows.specs.declared.handle.WritableKind.TheVariants.{Own}

@@ -1,7 +1,6 @@
 -- There is room for the other's bytes behind those of the first, and it lies beside them.
 use Rattle.std.proofs.Common.{◌≡◌, ℕ, ◌+◌, ◌≤◌, ◌≢◌, ◌⊎◌, List, length, Ok, Result, sym, refl, ap, ◌∙◌, subst, arith}
 use Rattle.faults.specs.declared.Fault.{Fault}
-use Rattle.reserve.proofs.HandleFacts.{handled}
 use Rattle.reserve.proofs.HandlesSound.{its_block, over}
 use Rattle.reserve.proofs.RoomFacts.{room_roomy}
 use Rattle.reserve.proofs.RoomOthers.{room_elsewhere}

@@ -1,8 +1,8 @@
 -- Joining two handles leaves a sound table.
-use Rattle.std.proofs.Common.{◌≡◌, ℕ, ◌+◌, ◌<◌, ◌≤◌, Bool, true, false, cond, not, ◌&&◌, eqb, ◌≢◌, ◌⊎◌, List, length, Ok, Err, Result, sym, refl, ap, ◌∙◌, subst, inl, inr, arith}
+use Rattle.std.proofs.Common.{◌≡◌, ℕ, ◌+◌, ◌<◌, ◌≤◌, Bool, true, false, cond, not, eqb, ◌≢◌, List, Ok, Err, Result, sym, refl, ap, ◌∙◌, subst, inl, inr, arith}
 use Rattle.faults.specs.declared.Fault.{Fault}
 use Rattle.memory.specs.declared.fault.MemoryFault.{MemoryFault}
-use Rattle.reserve.proofs.HandlesSound.{over, put_stands, row_known, sound_cut}
+use Rattle.reserve.proofs.HandlesSound.{over, row_known, sound_cut}
 use Rattle.reserve.proofs.RoomOthers.{room_elsewhere}
 use Rattle.reserve.proofs.RoomsSound.{Roomy, room_enough, room_sound}
 use Rattle.reserve.specs.Rooms.{room_of}
@@ -16,7 +16,7 @@ use Rattle.table.proofs.Passing.{both_after}
 use Rattle.table.proofs.SoundShared.{Unites, detached_elsewhere, detached_here, sound_passed_on, sound_united}
 use Rattle.table.proofs.SoundSteps.{fits_free, sound_detach}
 use Rattle.table.specs.Checks.{memory_check}
-use Rattle.table.specs.Soundness.{InHandle, Sound}
+use Rattle.table.specs.Soundness.{Sound}
 use Rattle.table.specs.Tables.{detach, handle_at, with_handle}
 use Rattle.table.specs.declared.table.Table.{Table}
 use Rattle.writable.specs.Calls.{longer}

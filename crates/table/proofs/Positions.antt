@@ -1,5 +1,5 @@
 -- What a sound table tells of the positions of its handles.
-use Rattle.std.proofs.Common.{◌≡◌, ℕ, ◌+◌, ◌<◌, ◌≤◌, true, false, ◌≢◌, ◌⊎◌, sym, ap, ◌∙◌, inl, inr, arith}
+use Rattle.std.proofs.Common.{◌≡◌, ℕ, ◌+◌, ◌≤◌, true, ◌≢◌, ◌⊎◌, sym, ap, inl, inr, arith}
 use Rattle.rows.specs.Rows.{block_of, blocked, extent_of, handle_free, start_of, writable}
 use Rattle.std.proofs.lemmas.Bool.{cases_Bool, cases_eq, cases_lt}
 use Rattle.table.proofs.SoundSteps.{block_live, block_under, free_handle_is, writable_blocked}

@@ -1,7 +1,6 @@
 -- Handles that share a block, that go to another row, and that become one.
-use Rattle.std.proofs.Common.{◌≡◌, ℕ, ◌+◌, ◌<◌, ◌≤◌, Bool, true, false, cond, ◌≢◌, ◌⊎◌, List, length, get_or, set, count_by, sym, refl, ap, ◌∙◌, subst, inl, inr, ⊎_elim, arith}
-use Rattle.rows.specs.Rows.{handle_free, block_free, writable, blocked, block_of, start_of, len_of, extent_of, lone, names, place_of, size_of, count_of, lowered, raised}
-use Rattle.rows.specs.declared.block.BlockRow.{BlockRow}
+use Rattle.std.proofs.Common.{◌≡◌, ℕ, ◌+◌, ◌<◌, ◌≤◌, true, false, cond, ◌≢◌, ◌⊎◌, List, length, get_or, set, count_by, sym, refl, ap, ◌∙◌, subst, inl, inr, ⊎_elim, arith}
+use Rattle.rows.specs.Rows.{handle_free, block_free, writable, blocked, block_of, start_of, len_of, extent_of, lone, names, place_of, size_of, lowered, raised}
 use Rattle.rows.specs.declared.block.BlockRow.TheVariants as block
 use Rattle.rows.specs.declared.handle.HandleRow.{HandleRow}
 use Rattle.rows.specs.declared.handle.HandleRow.TheVariants as row

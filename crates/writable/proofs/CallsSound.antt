@@ -1,9 +1,9 @@
 -- Each call on writable handles leaves a sound table.
 use Rattle.std.proofs.Common.{◌≡◌, ℕ, ◌+◌, ◌-◌, ◌≤◌, true, ltb, leb, List, length, Ok, Err, Result, refl, ap, arith}
 use Rattle.memory.specs.declared.fault.MemoryFault.{MemoryFault}
-use Rattle.std.proofs.lemmas.Bool.{cond_both, leb-true, ltb-true}
+use Rattle.std.proofs.lemmas.Bool.{cond_both, ltb-true}
 use Rattle.table.proofs.SoundSteps.{free_unblocked, sound_detach, sound_settle}
-use Rattle.table.specs.Checks.{block_row_check, handle_row_check, memory_check, no_row, or_refuse, place_check, range_check}
+use Rattle.table.specs.Checks.{block_row_check, handle_row_check, memory_check, no_row, place_check, range_check}
 use Rattle.rows.specs.Rows.{handle_free}
 use Rattle.table.specs.Soundness.{Sound}
 use Rattle.table.specs.Tables.{detach, handle_at, with_handle}

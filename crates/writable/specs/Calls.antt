@@ -11,7 +11,7 @@ use Rattle.std.proofs.Math.Seq.{paste}
 use Rattle.memory.specs.declared.fault.MemoryFault.{MemoryFault}
 use Rattle.table.specs.Checks.{and_then, block_row_check, handle_row_check, memory_check, no_row, or_refuse, or_refuse_with, place_check, range_check}
 use Rattle.rows.specs.Classes.{class_of}
-use Rattle.table.specs.Tables.{detach, settle, with_handle}
+use Rattle.table.specs.Tables.{settle, with_handle}
 use Rattle.faults.specs.declared.Fault.{Fault}
 use Rattle.rows.specs.declared.block.Block.{Block}
 use Rattle.rows.specs.declared.handle.HandleRow.TheVariants.{Writable}

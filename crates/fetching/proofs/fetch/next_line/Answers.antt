@@ -5,8 +5,8 @@ use Rattle.promises.specs.Views.{view}
 use Rattle.fetching.proofs.Cutting.{cut_at_first}
 use Rattle.fetching.proofs.fetch.next_line.Goals as goal
 
-pub returns-in_ok-advance : goal.returns-in_ok-advance
-returns-in_ok-advance g c =
+pub returns-in_ok-advance-in-Some : goal.returns-in_ok-advance-in-Some
+returns-in_ok-advance-in-Some g c =
     let t = c.args.ledger.now.table in
     let m = g.M.Memory.bytes c.args.mem.now in
     let f = g.M.Memory.fault c.args.mem.now in
@@ -15,5 +15,5 @@ returns-in_ok-advance g c =
     let read = c.in_ok-shown.ensures in
     let shown = c.in_ok-shown.shown in
     let after = c.advance.new.ledger.table in
-    let moved = advanced_view t m f k (sound_opens t c.args.ledger.now.sound) read.reaches (i + 1) after c.in_ok-advance.ensures in
+    let moved = advanced_view t m f k (sound_opens t c.args.ledger.now.sound) read.reaches (i + 1) after c.in_ok-advance-in-Some.ensures in
     cut_at_first (view t m k) (vec_items shown) c.as_slice.result.now (vec_items c.truncate.new.self) (view after m k) i read.answer c.as_slice.ensures.value c.truncate.ensures.items moved c.in-Some.ensures

@@ -14,7 +14,7 @@ loop-chunk-init g c =
     let ys = g.I.Memory.bytes c.args.open_items.now in
     let p = c.pass_lines.new.progress in
     let v = view c.pass_lines.new.ledger.table (g.M.Memory.bytes c.args.mem.now) c.args.token.now in
-    let all = ap chunks_rest c.into_iter-chunk-iterator.ensures.into_iter-gives ∙ c.chunks-chunk-items.ensures.rest in
+    let all = ap chunks_rest c.into_iter-chunk-iterator.ensures.into_iter_gives ∙ c.chunks-chunk-items.ensures.rest in
     (c.in_ok-pass_lines.ensures.fetched, λ xs. subst (λ (rest : List ℕ). Underway xs ys p (v ++ rest)) (sym all))
 
 pub loop-chunk-preserved : goal.loop-chunk-preserved

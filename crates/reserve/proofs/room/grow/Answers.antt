@@ -1,5 +1,4 @@
-use Rattle.std.proofs.Common.{◌+◌, ◌≤◌, sym, subst, arith}
-use Rattle.rows.specs.Rows.{place_of, size_of}
+use Rattle.std.proofs.Common.{sym, subst, arith}
 use Rattle.table.specs.Soundness.{Placed}
 use Rattle.table.proofs.SoundSingle.{sound_opens}
 use Rattle.reserve.proofs.HandleFacts.{copy_apart, room_found}

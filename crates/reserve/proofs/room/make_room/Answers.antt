@@ -1,4 +1,4 @@
-use Rattle.std.proofs.Common.{◌≡◌, sym, ap, ◌∙◌, subst, arith}
+use Rattle.std.proofs.Common.{sym, ap, ◌∙◌, subst, arith}
 use Rattle.rows.specs.Rows.{block_in}
 use Rattle.table.proofs.SoundSingle.{sound_opens}
 use Rattle.reserve.specs.declared.rules.ReserveRule.TheVariants.{Grow, MoveOut}

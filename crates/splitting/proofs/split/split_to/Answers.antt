@@ -1,4 +1,4 @@
-use Rattle.std.proofs.Common.{◌<◌, sym, ap, subst, arith}
+use Rattle.std.proofs.Common.{◌<◌, sym, subst, arith}
 use Rattle.reserve.proofs.HandlesSound.{over}
 use Rattle.rows.specs.Rows.{count_of}
 use Rattle.table.proofs.Passing.{range_passed}

@@ -1,6 +1,6 @@
-use Rattle.std.proofs.Common.{not, sum_by, count_by, ap, ◌∙◌, arith, take_all}
+use Rattle.std.proofs.Common.{sum_by, count_by, ap, ◌∙◌, arith, take_all}
 use Rattle.std.proofs.lemmas.List.Sums.{count_by_more_yes, count_by_more_no, sum_by_more}
-use Rattle.rows.specs.Rows.{block_free, block_live, size_of}
+use Rattle.rows.specs.Rows.{block_live, size_of}
 use Rattle.rows.specs.declared.block.BlockRow.TheVariants.{Free}
 use Rattle.table.proofs.tally.add_up_blocks.Goals as goal
 use Rattle.table.proofs.tally.add_up_blocks.Goals.{in-Live, in_default}

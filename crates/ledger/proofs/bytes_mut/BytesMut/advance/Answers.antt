@@ -1,4 +1,4 @@
-use Rattle.std.proofs.Common.{sym, refl, ap, ◌∙◌, arith}
+use Rattle.std.proofs.Common.{sym, refl, ap, arith}
 use Rattle.table.proofs.SoundSingle.{sound_opens}
 use Rattle.writable.proofs.CallsSound.{advance_sound}
 use Rattle.reserve.proofs.HandleFacts.{handled}

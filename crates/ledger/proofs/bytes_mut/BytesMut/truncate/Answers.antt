@@ -1,4 +1,4 @@
-use Rattle.std.proofs.Common.{sym, ap}
+use Rattle.std.proofs.Common.{sym}
 use Rattle.table.proofs.SoundSingle.{sound_opens}
 use Rattle.writable.proofs.CallsSound.{truncate_sound}
 use Rattle.ledger.proofs.Knowing.{known, sound_after}
