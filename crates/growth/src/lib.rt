@@ -2,7 +2,7 @@
 
 ghost use Rattle.std.specs.Prelude.{◌≡◌, ℕ, ◌^◌, ◌<◌, ◌≤◌};
 ghost use Rattle.growth.specs.Rules.{doubled};
-ghost use Rattle.std.proofs.Common.{rules, arith};
+ghost use Rattle.growth.specs.RuleLaws.{doubled_enough, doubled_fits, need_enough};
 
 // Which size a block grows to. Asking changes nothing.
 pub trait Growth {
@@ -46,9 +46,9 @@ impl Default for Doubling {
 impl Growth for Doubling {
     ghost answer = { λ rule. doubled rule.minimum };
 
-    ghost enough = { first_of (Prim.search rules, Prim.grind (arith, Self.row.coded.inj)) };
+    ghost enough = { λ rule. doubled_enough rule.minimum };
 
-    ghost fits = { first_of (Prim.search rules, Prim.grind (arith, Self.row.coded.inj)) };
+    ghost fits = { λ rule. doubled_fits rule.minimum rule.small };
 
     fn grown(&self, size: u32, need: u32) -> u32 {
         size.saturating_mul(2).max(need).max(self.minimum)
@@ -62,9 +62,9 @@ pub struct Exact;
 impl Growth for Exact {
     ghost answer = { λ rule size need. need };
 
-    ghost enough = { Prim.search rules };
+    ghost enough = { λ rule size need. need_enough need };
 
-    ghost fits = { Prim.search rules };
+    ghost fits = { λ rule size need fits. fits };
 
     fn grown(&self, _size: u32, need: u32) -> u32 {
         need
