@@ -1,6 +1,6 @@
 ghost use Rattle.std.specs.Prelude.{◌≡◌, ◌≤◌, length, IfOk, MatchOption, OnOk};
 ghost use Rattle.fetching.specs.Fetches.{Fetched, NoEnd, StandsFirst};
-ghost use Rattle.promises.specs.Views.{view};
+ghost use Rattle.law.specs.Views.{view};
 
 use crate::stopped::Stopped;
 use ledger::bytes_mut::BytesMut;

@@ -2,7 +2,7 @@ ghost use Rattle.fetching.specs.Fetches.{NoEnd};
 ghost use Rattle.fetching.specs.Passages.{Carries};
 ghost use Rattle.matching.specs.Pairings.{entries_of, settled_invoices};
 ghost use Rattle.matching.specs.Reconciliation.{Reconciled};
-ghost use Rattle.promises.specs.Views.{view};
+ghost use Rattle.law.specs.Views.{view};
 ghost use Rattle.std.specs.Prelude.{◌≡◌, ◌++◌, IfOk, OnOk};
 
 use crate::fetch::{next_line, read_shown};

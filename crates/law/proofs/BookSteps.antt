@@ -17,9 +17,9 @@ use Rattle.rows.specs.declared.block.BlockRow.TheVariants as block
 use Rattle.rows.specs.declared.handle.HandleRow.{HandleRow}
 use Rattle.rows.specs.declared.handle.HandleRow.TheVariants as row
 use Rattle.table.specs.declared.table.Table.{Table}
-use Rattle.promises.specs.Book.{Book, strike}
-use Rattle.promises.specs.Law.{part}
-use Rattle.promises.proofs.Kept.{Kept, shown_by}
+use Rattle.law.specs.Book.{Book, strike}
+use Rattle.law.specs.Law.{part}
+use Rattle.law.proofs.Kept.{Kept, shown_by}
 
 abbrev pub with_blocks : Table → List BlockRow → Table
 with_blocks t bs = record { number = t.number; opened = t.opened; fixed = t.fixed; limit = t.limit; handles = t.handles; blocks = bs }

@@ -17,16 +17,16 @@ use Rattle.table.proofs.SoundShared.{Shares, cut_sound, sound_shared}
 use Rattle.table.specs.Checks.{handle_row_check, range_check}
 use Rattle.table.specs.Tables.{handle_at}
 use Rattle.table.specs.declared.table.Table.{Table}
-use Rattle.promises.proofs.BookSteps.{kept_relisted}
-use Rattle.promises.proofs.Kept.{Kept}
-use Rattle.promises.proofs.SharedSteps.{kept_shared}
-use Rattle.promises.proofs.Showing.{handle_whole, list_shown, part_first, part_rest, whole_first, whole_rest}
-use Rattle.promises.proofs.TableTurns.{KeptAfter, KeptIn, TurnKept, refused}
-use Rattle.promises.specs.Book.{enter, list_of}
-use Rattle.promises.specs.Calls as calls
-use Rattle.promises.specs.Calls.{Call, on_table}
-use Rattle.promises.specs.Law.{part}
-use Rattle.promises.specs.Runs.{Run}
+use Rattle.law.proofs.BookSteps.{kept_relisted}
+use Rattle.law.proofs.Kept.{Kept}
+use Rattle.law.proofs.SharedSteps.{kept_shared}
+use Rattle.law.proofs.Showing.{handle_whole, list_shown, part_first, part_rest, whole_first, whole_rest}
+use Rattle.law.proofs.TableTurns.{KeptAfter, KeptIn, TurnKept, refused}
+use Rattle.law.specs.Book.{enter, list_of}
+use Rattle.law.specs.Calls as calls
+use Rattle.law.specs.Calls.{Call, on_table}
+use Rattle.law.specs.Law.{part}
+use Rattle.law.specs.Runs.{Run}
 
 module _ (r : Run) (marks : List ℕ) (kept : KeptIn r marks) where
   -- the handle h of row i becomes g, and p goes into the free row j: each begins at most n further

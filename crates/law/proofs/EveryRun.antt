@@ -1,16 +1,16 @@
 -- Every turn keeps what is kept of a run, and so every run keeps its promises.
 use Rattle.std.proofs.Common.{ℕ, List}
 use Rattle.memory.specs.declared.fault.MemoryFault.{MemoryFault}
-use Rattle.promises.proofs.CutTurns.{split_off_turn, split_to_turn, split_turn}
-use Rattle.promises.proofs.JoinTurns.{try_unsplit_turn, unsplit_turn}
-use Rattle.promises.proofs.MemoryTurns.{extend_turn, from_turn, reserve_turn, try_reclaim_turn}
-use Rattle.promises.proofs.Promising.{EveryTurnKeeps, every_run}
-use Rattle.promises.proofs.TableTurns.{TurnKept, KeptIn, advance_turn, capacity_turn, len_turn, opening_turn, read_turn, release_turn, tally_turn, truncate_turn, with_capacity_turn}
-use Rattle.promises.proofs.TurnSound.{turn_sound}
-use Rattle.promises.specs.Calls as calls
-use Rattle.promises.specs.Calls.{Call}
-use Rattle.promises.specs.Law.{EveryRunKeepsItsPromises}
-use Rattle.promises.specs.Runs.{Run}
+use Rattle.law.proofs.CutTurns.{split_off_turn, split_to_turn, split_turn}
+use Rattle.law.proofs.JoinTurns.{try_unsplit_turn, unsplit_turn}
+use Rattle.law.proofs.MemoryTurns.{extend_turn, from_turn, reserve_turn, try_reclaim_turn}
+use Rattle.law.proofs.Promising.{EveryTurnKeeps, every_run}
+use Rattle.law.proofs.TableTurns.{TurnKept, KeptIn, advance_turn, capacity_turn, len_turn, opening_turn, read_turn, release_turn, tally_turn, truncate_turn, with_capacity_turn}
+use Rattle.law.proofs.TurnSound.{turn_sound}
+use Rattle.law.specs.Calls as calls
+use Rattle.law.specs.Calls.{Call}
+use Rattle.law.specs.Law.{EveryRunKeepsItsPromises}
+use Rattle.law.specs.Runs.{Run}
 
 module _ (f : ℕ → MemoryFault) (r : Run) (marks : List ℕ) (kept : KeptIn r marks) where
   turn_kept : (c : Call) → TurnKept f r c

@@ -5,7 +5,7 @@ use Rattle.std.proofs.lemmas.List.Edits.{length-paste, take-paste}
 use Rattle.std.proofs.lemmas.List.{drop-append-le, drop-take, ext_get_or, get_or-drop, get_or-take, length-append, length-drop, length-take, places, take-append-le, take-take}
 use Rattle.std.proofs.lemmas.Bool.{cases_lt}
 use Rattle.table.specs.Soundness.{In}
-use Rattle.promises.specs.Law.{part}
+use Rattle.law.specs.Law.{part}
 
 pub length_part : (m : List ℕ) (s k : ℕ) → s + k ≤ length m → length (part m s k) ≡ k
 length_part m s k inside = simp (length-take, length-drop) (omega arith)

@@ -29,18 +29,18 @@ use Rattle.table.specs.Soundness.{Sound}
 use Rattle.table.specs.Tables.{block_at, detach, handle_at, with_handle}
 use Rattle.table.specs.declared.table.Table.{Table}
 use Rattle.writable.specs.Calls.{longer}
-use Rattle.promises.proofs.BookSteps.{kept_detached, kept_relisted, kept_row}
-use Rattle.promises.proofs.Kept.{Kept, shown_by}
-use Rattle.promises.proofs.RoomsKept.{RoomKept, room_kept}
-use Rattle.promises.proofs.SharedSteps.{kept_passed_on}
-use Rattle.promises.proofs.Showing.{handle_whole, list_shown, listed_shown, part_joined}
-use Rattle.promises.proofs.TableTurns.{KeptAfter, KeptIn, TurnKept, refused}
-use Rattle.promises.proofs.Writes.{extend_kept, retotalled}
-use Rattle.promises.specs.Book.{Book, enter, joined, list_of, listed, strike}
-use Rattle.promises.specs.Calls as calls
-use Rattle.promises.specs.Calls.{Call, Rule, on_both, on_table}
-use Rattle.promises.specs.Law.{part}
-use Rattle.promises.specs.Runs.{Run}
+use Rattle.law.proofs.BookSteps.{kept_detached, kept_relisted, kept_row}
+use Rattle.law.proofs.Kept.{Kept, shown_by}
+use Rattle.law.proofs.RoomsKept.{RoomKept, room_kept}
+use Rattle.law.proofs.SharedSteps.{kept_passed_on}
+use Rattle.law.proofs.Showing.{handle_whole, list_shown, listed_shown, part_joined}
+use Rattle.law.proofs.TableTurns.{KeptAfter, KeptIn, TurnKept, refused}
+use Rattle.law.proofs.Writes.{extend_kept, retotalled}
+use Rattle.law.specs.Book.{Book, enter, joined, list_of, listed, strike}
+use Rattle.law.specs.Calls as calls
+use Rattle.law.specs.Calls.{Call, Rule, on_both, on_table}
+use Rattle.law.specs.Law.{part}
+use Rattle.law.specs.Runs.{Run}
 
 -- a list that is entered as it was listed changes nothing
 entered_same : (k : Book) (i : ℕ) (xs : List ℕ) → listed k i ≡ Some xs → enter k i xs ≡ k

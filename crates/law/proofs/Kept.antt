@@ -10,8 +10,8 @@ use Rattle.table.specs.Tables.{block_at, handle_at}
 use Rattle.rows.specs.declared.handle.HandleRow.{HandleRow}
 use Rattle.rows.specs.declared.handle.HandleRow.TheVariants as row
 use Rattle.table.specs.declared.table.Table.{Table}
-use Rattle.promises.specs.Book.{Book, listed}
-use Rattle.promises.specs.Law.{part}
+use Rattle.law.specs.Book.{Book, listed}
+use Rattle.law.specs.Law.{part}
 
 abbrev pub shown_by : List ℕ → HandleRow → Option (List ℕ)
 shown_by m row.Free = None

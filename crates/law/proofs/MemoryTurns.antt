@@ -20,13 +20,13 @@ use Rattle.reserve.specs.declared.room.Reclaim.TheVariants.{Yes, No}
 use Rattle.reserve.specs.declared.room.Room.{Room}
 use Rattle.ledger.specs.BytesMut.{tokened, writable_check}
 use Rattle.ledger.specs.declared.bytes_mut.BytesMut.{BytesMut}
-use Rattle.promises.proofs.Checked.{make_on}
-use Rattle.promises.proofs.Kept.{Kept}
-use Rattle.promises.proofs.RoomsKept.{ReclaimKept, RoomKept, reclaim_kept, room_kept, sound_shorter}
-use Rattle.promises.proofs.Writes.{extend_kept, made_kept, retotalled}
-use Rattle.promises.specs.Calls as calls
-use Rattle.promises.specs.Calls.{Answer, Call, Rule, State, on_both, turn}
-use Rattle.promises.specs.Runs.{Run, gone}
+use Rattle.law.proofs.Checked.{make_on}
+use Rattle.law.proofs.Kept.{Kept}
+use Rattle.law.proofs.RoomsKept.{ReclaimKept, RoomKept, reclaim_kept, room_kept, sound_shorter}
+use Rattle.law.proofs.Writes.{extend_kept, made_kept, retotalled}
+use Rattle.law.specs.Calls as calls
+use Rattle.law.specs.Calls.{Answer, Call, Rule, State, on_both, turn}
+use Rattle.law.specs.Runs.{Run, gone}
 
 -- what the run r has come to is kept, with the marks
 abbrev pub RunKept : Run → List ℕ → Type 0

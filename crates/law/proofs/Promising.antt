@@ -17,15 +17,15 @@ use Rattle.table.specs.declared.table.Table.{Table}
 use Rattle.writable.specs.Calls.{buffer_after}
 use Rattle.ledger.specs.BytesMut.{len_call, read_call, read_known, writable_check}
 use Rattle.ledger.specs.declared.bytes_mut.BytesMut.{BytesMut}
-use Rattle.promises.specs.Book.{Book, list_of, listed}
-use Rattle.promises.specs.Calls.{Call, turn}
-use Rattle.promises.specs.Law.{EveryRunKeepsItsPromises, Keeps, Promises, part}
-use Rattle.promises.specs.Runs.{Run, begun, gone, run}
-use Rattle.promises.proofs.Kept.{Kept, shown_by}
-use Rattle.promises.proofs.Showing.{handle_whole, list_shown, part_part, shown_live}
+use Rattle.law.specs.Book.{Book, list_of, listed}
+use Rattle.law.specs.Calls.{Call, turn}
+use Rattle.law.specs.Law.{EveryRunKeepsItsPromises, Keeps, Promises, part}
+use Rattle.law.specs.Runs.{Run, begun, gone, run}
+use Rattle.law.proofs.Kept.{Kept, shown_by}
+use Rattle.law.proofs.Showing.{handle_whole, list_shown, part_part, shown_live}
 use Rattle.ledger.proofs.Knowing.{known}
 use Rattle.table.proofs.Passing.{and_then_passed, range_passed}
-use Rattle.promises.proofs.TableTurns.{KeptAfter, KeptIn}
+use Rattle.law.proofs.TableTurns.{KeptAfter, KeptIn}
 
 -- the bytes read are those of the part asked for, where it lies in what the handle shows
 part_read : (m : List ℕ) (start len at : ℕ) (out : List ℕ) (x : Result (Unit {0}) Fault) → (x ≡ Ok tt → at + length out ≤ len) → (buffer_after x out (part m (start + at) (length out))).0 ≡ Ok tt → (buffer_after x out (part m (start + at) (length out))).1 ≡ part (part m start len) at (length out)

@@ -26,10 +26,10 @@ use Rattle.reserve.specs.declared.room.Reclaim.{Reclaim}
 use Rattle.reserve.specs.declared.room.Room.{Room}
 use Rattle.reserve.specs.declared.rules.ReserveRule.{ReserveRule}
 use Rattle.reserve.specs.declared.rules.ReserveRule.TheVariants.{Keep, Slide, Grow, Widen, MoveOut}
-use Rattle.promises.proofs.Kept.{Kept}
-use Rattle.promises.proofs.Writes.{grow_kept, move_out_kept, retotalled, slide_kept, widen_kept}
-use Rattle.promises.specs.Book.{Book, slid_by}
-use Rattle.promises.specs.Calls as calls
+use Rattle.law.proofs.Kept.{Kept}
+use Rattle.law.proofs.Writes.{grow_kept, move_out_kept, retotalled, slide_kept, widen_kept}
+use Rattle.law.specs.Book.{Book, slid_by}
+use Rattle.law.specs.Calls as calls
 
 -- How many handles the block has by the rule that was chosen.
 

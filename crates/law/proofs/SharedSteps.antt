@@ -11,10 +11,10 @@ use Rattle.table.proofs.SoundSteps.{blocked_live, raised_same}
 use Rattle.table.specs.Soundness.{Sound}
 use Rattle.table.specs.Tables.{attach, block_at, handle_at, with_handle}
 use Rattle.table.specs.declared.table.Table.{Table}
-use Rattle.promises.proofs.BookSteps.{kept_reshaped, kept_row, mark_raised}
-use Rattle.promises.proofs.Kept.{Kept, shown_by}
-use Rattle.promises.specs.Book.{Book}
-use Rattle.promises.specs.Law.{part}
+use Rattle.law.proofs.BookSteps.{kept_reshaped, kept_row, mark_raised}
+use Rattle.law.proofs.Kept.{Kept, shown_by}
+use Rattle.law.specs.Book.{Book}
+use Rattle.law.specs.Law.{part}
 
 -- h is over the block of the handle g, begins at most n further, and the memory m holds what it shows
 pub record Beside (m : List ℕ) (n : ℕ) (g h : HandleRow) : Type 0 where

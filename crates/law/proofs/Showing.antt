@@ -8,9 +8,9 @@ use Rattle.rows.specs.declared.handle.HandleRow.{HandleRow}
 use Rattle.rows.specs.declared.handle.HandleRow.TheVariants as row
 use Rattle.rows.specs.declared.handle.WritableHandle.{WritableHandle}
 use Rattle.table.specs.declared.table.Table.{Table}
-use Rattle.promises.specs.Book.{Book, list_of, listed, the_list}
-use Rattle.promises.specs.Law.{part}
-use Rattle.promises.proofs.Kept.{Kept, shown_by}
+use Rattle.law.specs.Book.{Book, list_of, listed, the_list}
+use Rattle.law.specs.Law.{part}
+use Rattle.law.proofs.Kept.{Kept, shown_by}
 
 -- Parts of a part.
 

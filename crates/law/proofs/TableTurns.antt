@@ -23,15 +23,15 @@ use Rattle.writable.specs.declared.calls.Made.{Made}
 use Rattle.ledger.specs.BytesMut.{capacity_call, len_call, read_call, released, tokened, writable_check}
 use Rattle.ledger.specs.Opening.{tally_call}
 use Rattle.ledger.specs.declared.bytes_mut.BytesMut.{BytesMut}
-use Rattle.promises.specs.Book.{accepted, enter, fed, feed, list_of, slid_by}
-use Rattle.promises.specs.Calls as calls
-use Rattle.promises.specs.Calls.{Answer, Call, State, on_table, turn}
-use Rattle.promises.specs.Law.{part}
-use Rattle.promises.specs.Runs.{Run, gone}
-use Rattle.promises.proofs.BookSteps.{kept_detached, kept_opened, kept_reshaped, kept_same, kept_settled, mark_raised}
-use Rattle.promises.proofs.Kept.{Kept}
-use Rattle.promises.proofs.Checked.{make_on}
-use Rattle.promises.proofs.Showing.{handle_whole, list_shown, listed_shown, part_behind, part_front, whole_behind, whole_front}
+use Rattle.law.specs.Book.{accepted, enter, fed, feed, list_of, slid_by}
+use Rattle.law.specs.Calls as calls
+use Rattle.law.specs.Calls.{Answer, Call, State, on_table, turn}
+use Rattle.law.specs.Law.{part}
+use Rattle.law.specs.Runs.{Run, gone}
+use Rattle.law.proofs.BookSteps.{kept_detached, kept_opened, kept_reshaped, kept_same, kept_settled, mark_raised}
+use Rattle.law.proofs.Kept.{Kept}
+use Rattle.law.proofs.Checked.{make_on}
+use Rattle.law.proofs.Showing.{handle_whole, list_shown, listed_shown, part_behind, part_front, whole_behind, whole_front}
 
 abbrev pub KeptIn : Run → List ℕ → Type 0
 KeptIn r marks = Kept r.found r.state.table r.state.memory r.book marks r.slid r.distances

@@ -17,8 +17,8 @@ use Rattle.splitting.proofs.JoinsSound.{try_unsplit_sound, unsplit_sound}
 use Rattle.splitting.proofs.SplitsSound.{split_off_sound, split_to_sound}
 use Rattle.splitting.specs.Joins.{try_unsplit_of, unsplit_of}
 use Rattle.table.proofs.Passing.{both_after, opened_from, table_after}
-use Rattle.promises.specs.Calls.{Call, State, turn}
-use Rattle.promises.specs.Calls.{opening, tally, with_capacity, from, len, capacity, read, split_off, split_to, split, truncate, advance, reserve, try_reclaim, extend, try_unsplit, unsplit, release}
+use Rattle.law.specs.Calls.{Call, State, turn}
+use Rattle.law.specs.Calls.{opening, tally, with_capacity, from, len, capacity, read, split_off, split_to, split, truncate, advance, reserve, try_reclaim, extend, try_unsplit, unsplit, release}
 
 -- a sound table, and a sound one behind a check that passes, leave a sound one
 sound_table : {A B : Type 0} (r : Result A Fault) (t : Table) (rest : A → Result B Fault × Table) → Sound t → ((x : A) → r ≡ Ok x → Sound (rest x).1) → Sound (or_refuse r t rest).1

@@ -19,18 +19,18 @@ use Rattle.table.proofs.Passing.{and_then_passed, memory_reaches, refused_ok}
 use Rattle.writable.specs.Calls.{advance_of, buffer_after, extend_of}
 use Rattle.ledger.specs.BytesMut.{advance_call, extend_call, len_call, read_call, read_known, writable_check}
 use Rattle.ledger.specs.declared.bytes_mut.BytesMut.{BytesMut}
-use Rattle.promises.specs.Book.{Book, enter, list_of, listed}
-use Rattle.promises.specs.Calls as calls
-use Rattle.promises.specs.Calls.{Rule, on_both, on_table}
-use Rattle.promises.specs.Law.{part}
-use Rattle.promises.specs.Runs.{Run, gone}
-use Rattle.promises.specs.Views.{view}
-use Rattle.promises.proofs.Kept.{shown_by}
-use Rattle.promises.proofs.MemoryTurns.{extend_turn}
-use Rattle.promises.proofs.Promising.{kept_promises}
-use Rattle.promises.proofs.Showing.{list_shown}
-use Rattle.promises.proofs.TableTurns.{KeptIn, advance_turn}
-use Rattle.promises.proofs.TurnSound.{turn_sound}
+use Rattle.law.specs.Book.{Book, enter, list_of, listed}
+use Rattle.law.specs.Calls as calls
+use Rattle.law.specs.Calls.{Rule, on_both, on_table}
+use Rattle.law.specs.Law.{part}
+use Rattle.law.specs.Runs.{Run, gone}
+use Rattle.law.specs.Views.{view}
+use Rattle.law.proofs.Kept.{shown_by}
+use Rattle.law.proofs.MemoryTurns.{extend_turn}
+use Rattle.law.proofs.Promising.{kept_promises}
+use Rattle.law.proofs.Showing.{list_shown}
+use Rattle.law.proofs.TableTurns.{KeptIn, advance_turn}
+use Rattle.law.proofs.TurnSound.{turn_sound}
 
 -- what a call went on with
 with_passed : {A B : Type 0} (r : Result A Fault) (t : Table) (m : List ℕ) (rest : A → (Result B Fault × Table × List ℕ)) (y : B) → (or_refuse_with r t m rest).0 ≡ Ok y → (x : A) × (r ≡ Ok x) × ((rest x).0 ≡ Ok y)

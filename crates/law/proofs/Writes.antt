@@ -22,10 +22,10 @@ use Rattle.reserve.proofs.HandleFacts.{Handled, handled}
 use Rattle.writable.specs.Calls.{fresh, fresh_block, longer}
 use Rattle.reserve.specs.Rooms.{copied, grown_block, grown_handle, moved_out, moved_to, new_block}
 use Rattle.reserve.specs.Rules.{offset}
-use Rattle.promises.proofs.Frames.{front_unwritten, length_part, part_behind, part_unwritten, part_written}
-use Rattle.promises.proofs.Kept.{Kept, shown_by}
-use Rattle.promises.specs.Book.{Book, enter, list_of, the_list}
-use Rattle.promises.specs.Law.{part}
+use Rattle.law.proofs.Frames.{front_unwritten, length_part, part_behind, part_unwritten, part_written}
+use Rattle.law.proofs.Kept.{Kept, shown_by}
+use Rattle.law.specs.Book.{Book, enter, list_of, the_list}
+use Rattle.law.specs.Law.{part}
 
 -- What a sound table tells of the bytes that its handles show.
 

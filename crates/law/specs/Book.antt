@@ -10,8 +10,8 @@
 --   distance k c a    the distance of the call c, answered a, where k is the book before it
 --   slid_by a         the bytes that an answer says slid
 use Rattle.std.specs.Prelude.{ℕ, Bool, true, false, cond, List, [], ◌++◌, length, take, drop, Some, None, Option, slice_index_or, slice_set}
-use Rattle.promises.specs.Calls.{Call, opening, tally, with_capacity, from, len, capacity, read, split_off, split_to, split, truncate, advance, reserve, try_reclaim, extend, try_unsplit, unsplit, release}
-use Rattle.promises.specs.Calls.{Answer, Refused, Done, Made, Told, Tallied, Filled, Slid, Reclaimed, Unreclaimed, Joined, Declined}
+use Rattle.law.specs.Calls.{Call, opening, tally, with_capacity, from, len, capacity, read, split_off, split_to, split, truncate, advance, reserve, try_reclaim, extend, try_unsplit, unsplit, release}
+use Rattle.law.specs.Calls.{Answer, Refused, Done, Made, Told, Tallied, Filled, Slid, Reclaimed, Unreclaimed, Joined, Declined}
 
 abbrev pub Book : Type 0
 Book = List (Option (List ℕ))

@@ -19,9 +19,9 @@ use Rattle.table.specs.Tables.{block_at, handle_at}
 use Rattle.table.specs.declared.table.Table.{Table}
 use Rattle.ledger.specs.BytesMut.{len_call, read_call}
 use Rattle.ledger.specs.declared.bytes_mut.BytesMut.{BytesMut}
-use Rattle.promises.specs.Book.{Book, list_of, listed}
-use Rattle.promises.specs.Calls.{Call}
-use Rattle.promises.specs.Runs.{Run, begun, run}
+use Rattle.law.specs.Book.{Book, list_of, listed}
+use Rattle.law.specs.Calls.{Call}
+use Rattle.law.specs.Runs.{Run, begun, run}
 
 abbrev pub part : List ℕ → ℕ → ℕ → List ℕ
 part m s n = take n (drop s m)

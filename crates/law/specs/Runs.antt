@@ -6,8 +6,8 @@
 use Rattle.std.specs.Prelude.{ℕ, ◌+◌, List, [], ◌∷◌, replicate, None}
 use Rattle.memory.specs.declared.fault.MemoryFault.{MemoryFault}
 use Rattle.table.specs.Tables.{new_table}
-use Rattle.promises.specs.Book.{Book, distance, feed, slid_by}
-use Rattle.promises.specs.Calls.{Answer, Call, State, turn}
+use Rattle.law.specs.Book.{Book, distance, feed, slid_by}
+use Rattle.law.specs.Calls.{Answer, Call, State, turn}
 
 pub record Run : Type 0 where
   pub found : List ℕ

@@ -5,7 +5,7 @@ use Rattle.rows.specs.Rows.{len_of, start_of}
 use Rattle.table.specs.Tables.{handle_at}
 use Rattle.table.specs.declared.table.Table.{Table}
 use Rattle.ledger.specs.declared.bytes_mut.BytesMut.{BytesMut}
-use Rattle.promises.specs.Law.{part}
+use Rattle.law.specs.Law.{part}
 
 unfoldable pub view : Table → List ℕ → BytesMut → List ℕ
 view t m k = part m (start_of (handle_at t k.row)) (len_of (handle_at t k.row))

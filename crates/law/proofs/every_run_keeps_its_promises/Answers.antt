@@ -1,5 +1,5 @@
-use Rattle.promises.proofs.EveryRun.{every_run_keeps_its_promises}
-use Rattle.promises.proofs.every_run_keeps_its_promises.Goals as goal
+use Rattle.law.proofs.EveryRun.{every_run_keeps_its_promises}
+use Rattle.law.proofs.every_run_keeps_its_promises.Goals as goal
 
 pub returns : goal.returns
 returns c = every_run_keeps_its_promises

@@ -1,7 +1,7 @@
 use Rattle.std.proofs.Common.{◌+◌, vec_items}
 use Rattle.table.proofs.SoundSingle.{sound_opens}
-use Rattle.promises.proofs.Views.{advanced_view}
-use Rattle.promises.specs.Views.{view}
+use Rattle.law.proofs.Views.{advanced_view}
+use Rattle.law.specs.Views.{view}
 use Rattle.fetching.proofs.Cutting.{cut_at_first}
 use Rattle.fetching.proofs.fetch.next_line.Goals as goal
 

@@ -1,7 +1,7 @@
 use Rattle.std.proofs.Common.{◌≡◌, length, drop, ap, ◌∙◌, arith}
 use Rattle.std.proofs.lemmas.List.{take-append-le, take_all}
 use Rattle.table.proofs.SoundSingle.{sound_opens}
-use Rattle.promises.proofs.Views.{len_view, read_reaches, read_whole}
+use Rattle.law.proofs.Views.{len_view, read_reaches, read_whole}
 use Rattle.fetching.proofs.fetch.read_shown.Goals as goal
 
 pub returns : goal.returns

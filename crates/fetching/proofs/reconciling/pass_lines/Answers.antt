@@ -1,6 +1,6 @@
 use Rattle.std.proofs.Common.{◌∷◌, length, vec_items, sym, ap, subst, arith, length-append}
 use Rattle.lines.specs.Lines.{line_end}
-use Rattle.promises.specs.Views.{view}
+use Rattle.law.specs.Views.{view}
 use Rattle.fetching.specs.Fetches.{NoEnd}
 use Rattle.fetching.proofs.Cutting.{line_fetched, none_fetched}
 use Rattle.fetching.proofs.Passing.{carried_all, carried_on}

@@ -1,6 +1,6 @@
 use Rattle.std.proofs.Common.{length}
 use Rattle.fetching.specs.Passages.{Carries}
-use Rattle.promises.specs.Views.{view}
+use Rattle.law.specs.Views.{view}
 use Rattle.fetching.proofs.reconciling.pass_lines.Given as goal
 
 abbrev pub invariant-loop-text : goal.invariant-loop-text

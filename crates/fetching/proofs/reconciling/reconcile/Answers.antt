@@ -1,8 +1,8 @@
 use Rattle.std.proofs.Common.{ℕ, List, ◌++◌, vec_items, sym, ap, ◌∙◌, subst}
 use Rattle.std.specs.Slice.Iter.{chunks_rest}
 use Rattle.matching.proofs.Reconciling.{reconciled_as}
-use Rattle.promises.proofs.Views.{extended_view}
-use Rattle.promises.specs.Views.{view}
+use Rattle.law.proofs.Views.{extended_view}
+use Rattle.law.specs.Views.{view}
 use Rattle.table.proofs.SoundSingle.{sound_opens}
 use Rattle.fetching.specs.Fetches.{NoEnd}
 use Rattle.fetching.specs.Passages.{Underway}

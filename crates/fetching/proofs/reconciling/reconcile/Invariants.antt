@@ -2,7 +2,7 @@ use Rattle.std.proofs.Common.{ℕ, List, ◌++◌}
 use Rattle.std.specs.Slice.Iter.{chunks_rest}
 use Rattle.fetching.specs.Fetches.{NoEnd}
 use Rattle.fetching.specs.Passages.{Underway}
-use Rattle.promises.specs.Views.{view}
+use Rattle.law.specs.Views.{view}
 use Rattle.fetching.proofs.reconciling.reconcile.Given as goal
 
 -- what the handle shows, and then what is left of the source, is still to come
