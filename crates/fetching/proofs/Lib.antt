@@ -1,2 +1,3 @@
 mod Cutting
+pub mod Knowing
 mod Passing

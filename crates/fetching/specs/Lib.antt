@@ -1,2 +1,3 @@
 pub mod Fetches
+pub mod Knowing
 pub mod Passages

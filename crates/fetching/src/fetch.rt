@@ -1,5 +1,6 @@
 ghost use Rattle.std.specs.Prelude.{◌≡◌, ◌≤◌, length, IfOk, MatchOption, OnOk};
 ghost use Rattle.fetching.specs.Fetches.{Fetched, NoEnd, StandsFirst};
+ghost use Rattle.fetching.specs.Knowing.{Knows};
 ghost use Rattle.law.specs.Views.{view};
 
 use crate::stopped::Stopped;
@@ -47,7 +48,8 @@ pub fn next_line<M: Memory>(
     mem: &M,
     token: &BytesMut,
 ) -> Result<Option<Vec<u8>>, Stopped>
-    ensures { IfOk result (λ line. Fetched (view ledger.old.table (M.bytes mem.now) token.now) line (view ledger.new.table (M.bytes mem.now) token.now)) }
+    ensures fetched { IfOk result (λ line. Fetched (view ledger.old.table (M.bytes mem.now) token.now) line (view ledger.new.table (M.bytes mem.now) token.now)) }
+    ensures known { Knows ledger.old.table token.now → Knows ledger.new.table token.now }
 {
     let mut shown = read_shown(heap, ledger, mem, token)?;
     match find_end(shown.as_slice()) {

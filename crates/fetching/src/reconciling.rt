@@ -1,4 +1,5 @@
 ghost use Rattle.fetching.specs.Fetches.{NoEnd};
+ghost use Rattle.fetching.specs.Knowing.{Knows};
 ghost use Rattle.fetching.specs.Passages.{Carries};
 ghost use Rattle.matching.specs.Pairings.{entries_of, settled_invoices};
 ghost use Rattle.matching.specs.Reconciliation.{Reconciled};
@@ -36,6 +37,7 @@ fn pass_lines<M: Memory, I: Memory>(
 ) -> Result<(), Stopped>
     ensures fetched { OnOk result (NoEnd (view ledger.new.table (M.Memory.bytes mem.now) token.now)) }
     ensures passed { OnOk result (Carries (I.Memory.bytes open_items.now) progress.old (view ledger.old.table (M.Memory.bytes mem.now) token.now) progress.new (view ledger.new.table (M.Memory.bytes mem.now) token.now)) }
+    ensures known { Knows ledger.old.table token.now → Knows ledger.new.table token.now }
 {
     while let Some(text) = next_line(heap, ledger, mem, token)? {
         progress.pass(open_items, text.as_slice())?;
@@ -46,6 +48,7 @@ fn pass_lines<M: Memory, I: Memory>(
 // Pairs the payments of a statement with the open invoices, line by line: each with the first open invoice of equal
 // amount and payee. Every other line is logged. The statement is what the handle shows and then the source, which passes
 // through the handle: it is extended chunk by chunk, and advanced past each line. Bytes behind the last line end stay.
+// A token that the ledger knew is still known, whatever stops the lines.
 pub fn reconcile<M: Memory, G: Growth, I: Memory>(
     heap: Global,
     ledger: &mut Ledger,
@@ -58,6 +61,7 @@ pub fn reconcile<M: Memory, G: Growth, I: Memory>(
     ensures entries { IfOk result (λ done. done.report.entries.items ≡ entries_of (view ledger.old.table (M.Memory.bytes mem.old) token.now ++ source.now) (I.Memory.bytes open_items.now)) }
     ensures invoices { IfOk result (λ done. done.report.invoices.items ≡ settled_invoices (view ledger.old.table (M.Memory.bytes mem.old) token.now ++ source.now) (I.Memory.bytes open_items.now)) }
     ensures law { IfOk result (λ done. Reconciled (view ledger.old.table (M.Memory.bytes mem.old) token.now ++ source.now) (I.Memory.bytes open_items.now) done.report.entries.items done.report.invoices.items) }
+    ensures known { Knows ledger.old.table token.now → Knows ledger.new.table token.now }
 {
     let mut progress = Progress::new(heap, open_items)?;
     let mut slid: u64 = 0;

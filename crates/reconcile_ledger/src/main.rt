@@ -1,11 +1,12 @@
 // Pairs the payments of a bank statement, read from standard input, with the open invoices of a file, and prints the log.
 #![tactic(auto)]
 
-mod failed;
 mod show;
 mod texts;
 
-use crate::failed::Failed;
+ghost use Rattle.fetching.specs.Knowing.{Knows};
+ghost use Rattle.std.specs.Prelude.{IfOk};
+
 use anyhow::anyhow;
 use fetching::reconciling::reconcile;
 use fetching::stopped::Stopped;
@@ -43,7 +44,10 @@ fn zeros(rt: &HostRuntime) -> anyhow::Result<Vec<u8>> {
     Ok(vec![in rt.alloc(); 0; ARENA as usize]?)
 }
 
-fn open_handle(ledger: &mut Ledger) -> Result<BytesMut, Stopped> {
+// A handle that shows nothing, of a ledger that is opened for it.
+fn open_handle(ledger: &mut Ledger) -> Result<BytesMut, Stopped>
+    ensures { IfOk result (λ token. Knows ledger.new.table token) }
+{
     ledger.open(1, 0, ARENA as u64)?;
     Ok(BytesMut::with_capacity(ledger, CAPACITY)?)
 }
@@ -60,7 +64,9 @@ fn report<M: Memory>(
     token: &BytesMut,
     statement: &[u8],
     invoices: &mut [u8],
-) -> anyhow::Result<()> {
+) -> anyhow::Result<()>
+    ensures { Knows ledger.old.table token.now → Knows ledger.new.table token.now }
+{
     let growth = Doubling::default();
     let open_items = SliceMemory::new(invoices);
     let done = reconcile(
@@ -77,13 +83,14 @@ fn report<M: Memory>(
     Ok(())
 }
 
-fn run(rt: &HostRuntime) -> Result<(), Failed> {
+// The ledger knows the handle's token to the end, so the handle is released whatever came of the report.
+fn run(rt: &HostRuntime) -> anyhow::Result<()> {
     let mut invoices = read_invoices(rt)?;
     let statement = read_statement(rt)?;
     let mut arena = zeros(rt)?;
     let mut mem = Window::new(SliceMemory::new(arena.as_mut_slice()), 0, ARENA);
     let mut ledger = Ledger::new();
-    let token = open_handle(&mut ledger)?;
+    let token = open_handle(&mut ledger).map_err(|stopped| anyhow!("no handle: {stopped}"))?;
     let done = report(
         rt,
         &mut ledger,
@@ -93,11 +100,11 @@ fn run(rt: &HostRuntime) -> Result<(), Failed> {
         invoices.as_mut_slice(),
     );
     match token.release(&mut ledger) {
-        Ok(()) => Ok(done?),
-        Err(refused) => Err(Failed::Held(refused)),
+        Ok(()) => done,
+        Err(_) => unreachable!(),
     }
 }
 
-fn main(rt: HostRuntime) -> Result<(), Failed> {
+fn main(rt: HostRuntime) -> anyhow::Result<()> {
     run(&rt)
 }

@@ -7,7 +7,7 @@ use Rattle.fetching.proofs.Passing.{carried_all, carried_on}
 use Rattle.fetching.proofs.reconciling.pass_lines.Goals as goal
 
 pub loop-text-init : goal.loop-text-init
-loop-text-init g c = λ xs later under. under
+loop-text-init g c = record { passed = λ xs later under. under; known = λ knows. knows }
 
 pub loop-text-smaller : goal.loop-text-smaller
 loop-text-smaller g c =
@@ -16,7 +16,7 @@ loop-text-smaller g c =
     let v = view c.loop-text.ledger.table m k in
     let v' = view c.next_line.new.ledger.table m k in
     let text = vec_items c.in-Some.text in
-    let cut = line_fetched v v' c.in-Some.text c.in-Some.is c.in_ok-text.ensures in
+    let cut = line_fetched v v' c.in-Some.text c.in-Some.is c.in_ok-text.ensures.fetched in
     omega (arith, ap length cut.rejoined, length-append text (line_end ∷ v'))
 
 pub loop-text-preserved : goal.loop-text-preserved
@@ -27,8 +27,9 @@ loop-text-preserved g c =
     let v = view c.loop-text.ledger.table m k in
     let v' = view c.next_line.new.ledger.table m k in
     let text = vec_items c.in-Some.text in
-    let cut = line_fetched v v' c.in-Some.text c.in-Some.is c.in_ok-text.ensures in
-    carried_on (g.I.Memory.bytes c.args.open_items.now) c.args.progress.now c.loop-text.progress c.pass.new.self u v text c.as_slice.result.now v' c.loop-text.invariant cut c.as_slice.ensures.value c.in_ok-pass.ensures
+    let cut = line_fetched v v' c.in-Some.text c.in-Some.is c.in_ok-text.ensures.fetched in
+    let on = carried_on (g.I.Memory.bytes c.args.open_items.now) c.args.progress.now c.loop-text.progress c.pass.new.self u v text c.as_slice.result.now v' c.loop-text.invariant.passed cut c.as_slice.ensures.value c.in_ok-pass.ensures in
+    record { passed = on; known = λ knows. c.in_ok-text.ensures.known (c.loop-text.invariant.known knows) }
 
 pub returns : goal.returns
 returns g c =
@@ -37,8 +38,9 @@ returns g c =
     let u = view c.args.ledger.now.table m k in
     let v = view c.loop-text.ledger.table m k in
     let v' = view c.next_line.new.ledger.table m k in
-    let none = none_fetched v v' c.in_default.is c.in_ok-text.ensures in
+    let none = none_fetched v v' c.in_default.is c.in_ok-text.ensures.fetched in
     record {
       fetched = subst NoEnd (sym none.1) none.0;
-      passed = carried_all (g.I.Memory.bytes c.args.open_items.now) c.args.progress.now c.loop-text.progress u v v' c.loop-text.invariant none.1;
+      passed = carried_all (g.I.Memory.bytes c.args.open_items.now) c.args.progress.now c.loop-text.progress u v v' c.loop-text.invariant.passed none.1;
+      known = λ knows. c.in_ok-text.ensures.known (c.loop-text.invariant.known knows);
     }

@@ -1,4 +1,5 @@
 use Rattle.std.proofs.Common.{length}
+use Rattle.fetching.specs.Knowing.{Knows}
 use Rattle.fetching.specs.Passages.{Carries}
 use Rattle.law.specs.Views.{view}
 use Rattle.fetching.proofs.reconciling.pass_lines.Given as goal
@@ -6,7 +7,10 @@ use Rattle.fetching.proofs.reconciling.pass_lines.Given as goal
 abbrev pub invariant-loop-text : goal.invariant-loop-text
 invariant-loop-text g l =
     let m = g.M.Memory.bytes l.mem in
-    Carries (g.I.Memory.bytes l.open_items) l.initial.progress (view l.initial.ledger.table m l.token) l.progress (view l.ledger.table m l.token)
+    record {
+      passed : Carries (g.I.Memory.bytes l.open_items) l.initial.progress (view l.initial.ledger.table m l.token) l.progress (view l.ledger.table m l.token);
+      known : Knows l.initial.ledger.table l.token → Knows l.ledger.table l.token;
+    }
 
 abbrev pub decreases-loop-text : goal.decreases-loop-text
 decreases-loop-text g l = length (view l.ledger.table (g.M.Memory.bytes l.mem) l.token)

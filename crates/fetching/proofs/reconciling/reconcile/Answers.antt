@@ -6,6 +6,7 @@ use Rattle.law.specs.Views.{view}
 use Rattle.table.proofs.SoundSingle.{sound_opens}
 use Rattle.fetching.specs.Fetches.{NoEnd}
 use Rattle.fetching.specs.Passages.{Underway}
+use Rattle.fetching.proofs.Knowing.{known_extended}
 use Rattle.fetching.proofs.Passing.{chunk_carried, source_carried}
 use Rattle.fetching.proofs.reconciling.reconcile.Goals as goal
 
@@ -15,7 +16,7 @@ loop-chunk-init g c =
     let p = c.pass_lines.new.progress in
     let v = view c.pass_lines.new.ledger.table (g.M.Memory.bytes c.args.mem.now) c.args.token.now in
     let all = ap chunks_rest c.into_iter-chunk-iterator.ensures.into_iter_gives ∙ c.chunks-chunk-items.ensures.rest in
-    (c.in_ok-pass_lines.ensures.fetched, λ xs. subst (λ (rest : List ℕ). Underway xs ys p (v ++ rest)) (sym all))
+    (c.in_ok-pass_lines.ensures.fetched, λ xs. subst (λ (rest : List ℕ). Underway xs ys p (v ++ rest)) (sym all), c.in_ok-pass_lines.ensures.known)
 
 pub loop-chunk-preserved : goal.loop-chunk-preserved
 loop-chunk-preserved g c =
@@ -28,11 +29,13 @@ loop-chunk-preserved g c =
     let m' = g.M.Memory.bytes c.extend_from_slice.new.mem in
     let grown = g.G.Growth.answer c.args.growth.now in
     let chunk = c.in-Some.chunk.now in
-    let extended = extended_view t m f k (sound_opens t c.loop-chunk.ledger.sound) grown (g.met.G.Growth.enough c.args.growth.now) chunk c.in_ok-moved.moved t' m' c.in_ok-moved.ensures.does in
+    let s = sound_opens t c.loop-chunk.ledger.sound in
+    let extended = extended_view t m f k s grown (g.met.G.Growth.enough c.args.growth.now) chunk c.in_ok-moved.moved t' m' c.in_ok-moved.ensures.does in
+    let grown_known = known_extended t t' s m m' f grown k chunk c.extend_from_slice.result c.extend_from_slice.ensures.does in
     let w = view c.pass_lines-in-loop-chunk.new.ledger.table m' k in
     let cut = c.in-Some.ensures.steps.1.0 in
     let passed = c.in_ok-pass_lines-2.ensures in
-    (passed.fetched, λ xs under. chunk_carried xs ys c.loop-chunk.progress c.pass_lines-in-loop-chunk.new.progress (view t m k) w (view t' m' k) chunk (chunks_rest c.loop-chunk.chunk-iterator) (chunks_rest c.next.new.self) cut extended passed.passed (c.loop-chunk.invariant.1 xs under))
+    (passed.fetched, λ xs under. chunk_carried xs ys c.loop-chunk.progress c.pass_lines-in-loop-chunk.new.progress (view t m k) w (view t' m' k) chunk (chunks_rest c.loop-chunk.chunk-iterator) (chunks_rest c.next.new.self) cut extended passed.passed (c.loop-chunk.invariant.1 xs under), λ knows. passed.known (grown_known (c.loop-chunk.invariant.2 knows)))
 
 pub returns : goal.returns
 returns g c =
@@ -48,4 +51,16 @@ returns g c =
     let last = source_carried xs ys c.loop-chunk.progress v (chunks_rest c.loop-chunk.chunk-iterator) left c.in-None.ensures.steps.1.0 shown (c.loop-chunk.invariant.1 xs first) in
     let done = c.in_ok-report.ensures xs (subst NoEnd (sym shown) c.loop-chunk.invariant.0) last in
     let report = c.in_ok-report.report in
-    record { entries = done.0; invoices = done.1; law = reconciled_as xs ys (vec_items report.entries) (vec_items report.invoices) done.0 done.1 }
+    record { entries = done.0; invoices = done.1; law = reconciled_as xs ys (vec_items report.entries) (vec_items report.invoices) done.0 done.1; known = c.loop-chunk.invariant.2 }
+
+pub returns-in_err-moved-clause-known : goal.returns-in_err-moved-clause-known
+returns-in_err-moved-clause-known g c =
+    let t = c.loop-chunk.ledger.table in
+    let s = sound_opens t c.loop-chunk.ledger.sound in
+    λ knows. known_extended t c.extend_from_slice.new.ledger.table s (g.M.Memory.bytes c.loop-chunk.mem) (g.M.Memory.bytes c.extend_from_slice.new.mem) (g.M.Memory.fault c.loop-chunk.mem) (g.G.Growth.answer c.args.growth.now) c.args.token.now c.in-Some.chunk.now c.extend_from_slice.result c.extend_from_slice.ensures.does (c.loop-chunk.invariant.2 knows)
+
+pub returns-in_err-pass_lines-2-clause-known : goal.returns-in_err-pass_lines-2-clause-known
+returns-in_err-pass_lines-2-clause-known g c =
+    let t = c.loop-chunk.ledger.table in
+    let s = sound_opens t c.loop-chunk.ledger.sound in
+    λ knows. c.in_err-pass_lines-2.ensures.known (known_extended t c.extend_from_slice.new.ledger.table s (g.M.Memory.bytes c.loop-chunk.mem) (g.M.Memory.bytes c.extend_from_slice.new.mem) (g.M.Memory.fault c.loop-chunk.mem) (g.G.Growth.answer c.args.growth.now) c.args.token.now c.in-Some.chunk.now c.extend_from_slice.result c.extend_from_slice.ensures.does (c.loop-chunk.invariant.2 knows))
