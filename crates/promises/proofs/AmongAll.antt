@@ -2,17 +2,11 @@
 --   among_all c     the call among all calls
 --   heard a         the answer among all answers
 --   over s, ran r   the state and the run, as they stand for all calls
-use Rattle.std.proofs.Common.{◌≡◌, ℕ, ◌+◌, ◌≤◌, cond, List, [], ◌∷◌, map, Ok, Err, Result, refl, ap, ◌∙◌, subst}
+use Rattle.std.proofs.Common.{◌≡◌, ℕ, ◌+◌, cond, List, [], ◌∷◌, map, Ok, Err, refl, ap, ◌∙◌, subst}
 use Rattle.memory.specs.declared.fault.MemoryFault.{MemoryFault}
-use Rattle.faults.specs.declared.Fault.{Fault}
-use Rattle.table.specs.declared.table.Table.{Table}
-use Rattle.table.specs.declared.tally.Tally.{Tally}
-use Rattle.reserve.specs.declared.room.Reclaim.{Reclaim}
 use Rattle.reserve.specs.declared.room.Reclaim.TheVariants.{Yes, No}
 use Rattle.ledger.specs.BytesMut.{advance_call, capacity_call, extend_call, from_call, len_call, read_call, release_call, reserve_call, truncate_call, try_reclaim_call, with_capacity_call}
 use Rattle.ledger.specs.Opening.{open_call, tally_call}
-use Rattle.ledger.specs.declared.bytes_mut.BytesMut.{BytesMut}
-use Rattle.ledger.specs.declared.bytes_mut.Refused.{Refused}
 use Rattle.law.specs.Book as all_books
 use Rattle.law.specs.Calls as all
 use Rattle.law.specs.Law as all_laws

@@ -1,1 +1,1 @@
-mod AmongAll
+pub mod AmongAll
