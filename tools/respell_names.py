@@ -4,10 +4,10 @@
 A name of specs/ or proofs/ that is written with dashes goes to snake case, or to camel case where it begins
 with a capital; an inner capital letter goes as well. Names that the checker makes (of goals, steps, loops) stay, and so do the names of
 the library. It goes over the files of specs/ and proofs/, and over the clauses and `ghost use` lines of src/.
-Run it once, at the top, after /opt/rattle/port/port.py; `--list` only says what it would do.
+Run it once, at the top, after the toolchain's own script for older repositories; `--list` only says what it
+would do.
 """
 import glob
-import os
 import re
 import sys
 

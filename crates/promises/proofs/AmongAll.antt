@@ -111,45 +111,29 @@ turn_among_all f s (calls.release k) = ap (beside (turn f s (calls.release k)).1
 
 -- What the book, the distances and the slides take from it.
 
-accepted_heard : (a : Answer) → all_books.accepted (heard a) ≡ accepted a
-accepted_heard (calls.Refused e) = refl
-accepted_heard calls.Done = refl
-accepted_heard (calls.Made i) = refl
-accepted_heard (calls.Told n) = refl
-accepted_heard (calls.Tallied x) = refl
-accepted_heard (calls.Filled xs) = refl
-accepted_heard (calls.Slid n) = refl
-accepted_heard (calls.Reclaimed n) = refl
-accepted_heard calls.Unreclaimed = refl
+-- what an answer says to the book and of slides, it says among all answers
+record SaysSame (a : Answer) : Type 0 where
+  pub accepted : all_books.accepted (heard a) ≡ accepted a
+  pub row : all_books.new_row (heard a) ≡ new_row a
+  pub slid : all_books.slid_by (heard a) ≡ slid_by a
 
-new_row_heard : (a : Answer) → all_books.new_row (heard a) ≡ new_row a
-new_row_heard (calls.Refused e) = refl
-new_row_heard calls.Done = refl
-new_row_heard (calls.Made i) = refl
-new_row_heard (calls.Told n) = refl
-new_row_heard (calls.Tallied x) = refl
-new_row_heard (calls.Filled xs) = refl
-new_row_heard (calls.Slid n) = refl
-new_row_heard (calls.Reclaimed n) = refl
-new_row_heard calls.Unreclaimed = refl
-
-slid_by_heard : (a : Answer) → all_books.slid_by (heard a) ≡ slid_by a
-slid_by_heard (calls.Refused e) = refl
-slid_by_heard calls.Done = refl
-slid_by_heard (calls.Made i) = refl
-slid_by_heard (calls.Told n) = refl
-slid_by_heard (calls.Tallied x) = refl
-slid_by_heard (calls.Filled xs) = refl
-slid_by_heard (calls.Slid n) = refl
-slid_by_heard (calls.Reclaimed n) = refl
-slid_by_heard calls.Unreclaimed = refl
+says_same : (a : Answer) → SaysSame a
+says_same (calls.Refused e) = record { accepted = refl; row = refl; slid = refl }
+says_same calls.Done = record { accepted = refl; row = refl; slid = refl }
+says_same (calls.Made i) = record { accepted = refl; row = refl; slid = refl }
+says_same (calls.Told n) = record { accepted = refl; row = refl; slid = refl }
+says_same (calls.Tallied x) = record { accepted = refl; row = refl; slid = refl }
+says_same (calls.Filled xs) = record { accepted = refl; row = refl; slid = refl }
+says_same (calls.Slid n) = record { accepted = refl; row = refl; slid = refl }
+says_same (calls.Reclaimed n) = record { accepted = refl; row = refl; slid = refl }
+says_same calls.Unreclaimed = record { accepted = refl; row = refl; slid = refl }
 
 module _ (m : List ℕ) (k : Book) where
   fed_among_all : (c : Call) (a : Answer) → all_books.fed m k (among_all c) (heard a) ≡ fed m k c a
   fed_among_all (calls.opening number fixed limit) a = refl
   fed_among_all calls.tally a = refl
-  fed_among_all (calls.with_capacity n) a = ap (λ i. enter k i []) (new_row_heard a)
-  fed_among_all (calls.from xs) a = ap (λ i. enter k i xs) (new_row_heard a)
+  fed_among_all (calls.with_capacity n) a = ap (λ i. enter k i []) (says_same a).row
+  fed_among_all (calls.from xs) a = ap (λ i. enter k i xs) (says_same a).row
   fed_among_all (calls.len t) a = refl
   fed_among_all (calls.capacity t) a = refl
   fed_among_all (calls.read t at out) a = refl
@@ -162,7 +146,7 @@ module _ (m : List ℕ) (k : Book) where
 
   feed_among_all : (c : Call) (a : Answer) → all_books.feed m k (among_all c) (heard a) ≡ feed m k c a
   feed_among_all c a =
-      ap (λ b. cond b (all_books.fed m k (among_all c) (heard a)) k) (accepted_heard a)
+      ap (λ b. cond b (all_books.fed m k (among_all c) (heard a)) k) (says_same a).accepted
       ∙ ap (λ x. cond (accepted a) x k) (fed_among_all c a)
 
 way_among_all : (k : Book) (c : Call) → all_books.way k (among_all c) ≡ way c
@@ -182,7 +166,7 @@ way_among_all k (calls.release t) = refl
 
 distance_among_all : (k : Book) (c : Call) (a : Answer) → all_books.distance k (among_all c) (heard a) ≡ distance c a
 distance_among_all k c a =
-    ap (λ b. cond b (all_books.way k (among_all c)) 0) (accepted_heard a) ∙ ap (λ n. cond (accepted a) n 0) (way_among_all k c)
+    ap (λ b. cond b (all_books.way k (among_all c)) 0) (says_same a).accepted ∙ ap (λ n. cond (accepted a) n 0) (way_among_all k c)
 
 -- Whole runs.
 
@@ -198,7 +182,7 @@ gone_among_all r c o =
     let distances = r.distances + all_books.distance r.book (among_all c) (heard o.0) in
     let book = feed r.found r.book c o.0 in
     ap (λ k. came_to r.found o.1 k slid distances) (feed_among_all r.found r.book c o.0)
-    ∙ ap (λ n. came_to r.found o.1 book (r.slid + n) distances) (slid_by_heard o.0)
+    ∙ ap (λ n. came_to r.found o.1 book (r.slid + n) distances) (says_same o.0).slid
     ∙ ap (λ n. came_to r.found o.1 book (r.slid + slid_by o.0) (r.distances + n)) (distance_among_all r.book c o.0)
 
 run_among_all : (f : ℕ → MemoryFault) (r : Run) (cs : List Call) → all_runs.run f (ran r) (map among_all cs) ≡ ran (run f r cs)

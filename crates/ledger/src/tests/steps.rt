@@ -274,7 +274,7 @@ fn front(mem: &Window<OwnMemory>) -> [u8; 128] {
 }
 
 // Takes the steps on a new ledger over a memory of this size, with tokens of this number.
-pub fn check_steps(rt: &impl Abort, memory: u32, number: u32, steps: &[(Step, Said)]) {
+pub(super) fn check_steps(rt: &impl Abort, memory: u32, number: u32, steps: &[(Step, Said)]) {
     let mut ledger = Ledger::new();
     let mut mem = Window::new(OwnMemory::new(), 0, memory);
     for (step, said) in steps {
