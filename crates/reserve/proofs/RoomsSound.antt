@@ -1,13 +1,14 @@
 -- Making room leaves a sound table, in which the handle has that room.
-use Rattle.std.proofs.Common.{◌≡◌, ℕ, ◌+◌, ◌-◌, ◌<◌, ◌≤◌, true, false, cond, leb, List, IfOk, Ok, Err, Result, sym, refl, ap, ◌∙◌, arith}
+use Rattle.std.proofs.Common.{◌≡◌, ℕ, ◌+◌, ◌-◌, ◌<◌, ◌≤◌, true, false, cond, leb, List, IfOk, Ok, Err, Result, sym, refl, ap, ◌∙◌, subst, arith}
 use Rattle.std.proofs.lemmas.Result.{IfOk-at_ok}
 use Rattle.std.proofs.lemmas.Bool.{and_parts, cond_both, leb-false, leb-true, true≢false}
 use Rattle.table.specs.Checks.{block_row_check, place_check}
-use Rattle.rows.specs.Rows.{kind_own}
+use Rattle.rows.specs.Rows.{block_in, kind_own}
 use Rattle.table.specs.Soundness.{Sound}
-use Rattle.table.specs.Tables.{handle_at, let_go, with_handle}
+use Rattle.table.specs.Tables.{block_at, handle_at, let_go, with_handle}
 use Rattle.faults.specs.declared.Fault.{Fault}
 use Rattle.rows.specs.declared.block.Block.{Block}
+use Rattle.rows.specs.declared.block.BlockRow.TheVariants.{Live}
 use Rattle.rows.specs.declared.handle.HandleRow.TheVariants.{Writable}
 use Rattle.rows.specs.declared.handle.WritableHandle.{WritableHandle}
 use Rattle.rows.specs.declared.handle.WritableKind.{WritableKind}
@@ -139,3 +140,17 @@ module _ (t : Table) (m : List ℕ) (g : ℕ → ℕ → ℕ) (i : ℕ) (h : Wri
   -- the handle that is answered stands in the row and has the room
   pub room_enough : (room : Room) → (room_of t m g i h a).0 ≡ Ok room → Roomy (room_of t m g i h a).1 i h a room.handle
   room_enough room e = IfOk-at_ok (λ x. Roomy (room_of t m g i h a).1 i h a x.handle) e room_leaves.roomy
+
+-- the rule that is carried out leaves a sound table
+pub rule_sound : (t : Table) (m : List ℕ) (g : ℕ → ℕ → ℕ) (i : ℕ) (h : WritableHandle) (b : Block) (a : ℕ) → Sound t → handle_at t i ≡ Writable h → ((size need : ℕ) → need ≤ g size need) → block_at t h.block ≡ Live b → (r : ReserveRule) → r ≡ rule_of h b a → (u : Table) → u ≡ (carried t m g i h b r).1 → ∥ Sound u ∥₁
+rule_sound t m g i h b a s is enough over r rule u made =
+    let on : b ≡ its_block t h = sym (ap block_in over) in
+    let room = subst (λ (c : Block). Sound (carried t m g i h c (rule_of h c a)).1) (sym on) (room_sound t m g i h a s is enough) in
+    ∣ subst Sound (sym made) (subst (λ (q : ReserveRule). Sound (carried t m g i h b q).1) (sym rule) room) ∣₁
+
+-- the same where no rule is carried out that takes a growth rule or a new block
+pub reclaimed_rule_sound : (t : Table) (m : List ℕ) (i : ℕ) (h : WritableHandle) (b : Block) (a : ℕ) → Sound t → handle_at t i ≡ Writable h → block_at t h.block ≡ Live b → (r : ReserveRule) → r ≡ rule_of h b a → (u : Table) → u ≡ (reclaimed t m i h b r).1 → ∥ Sound u ∥₁
+reclaimed_rule_sound t m i h b a s is over r rule u made =
+    let on : b ≡ its_block t h = sym (ap block_in over) in
+    let room = subst (λ (c : Block). Sound (reclaimed t m i h c (rule_of h c a)).1) (sym on) (reclaim_sound t m i h a s is) in
+    ∣ subst Sound (sym made) (subst (λ (q : ReserveRule). Sound (reclaimed t m i h b q).1) (sym rule) room) ∣₁

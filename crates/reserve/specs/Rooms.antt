@@ -8,8 +8,8 @@
 --   widen_of t row h c        the handle h with the capacity c
 --   carried t m g row h b r   the rule r carried out
 --   room_of t m g row h a     room for a bytes more behind those of h
---   reclaim_of t m row h a    the same without a growth rule or a new block
-use Rattle.std.specs.Prelude.{ℕ, ◌+◌, ◌-◌, cond, List, drop, Ok, Err, Result, nat_le}
+--   reclaim_of t m row h a    the same without a growth rule or a new block: the bytes that slid, or none where there is no room
+use Rattle.std.specs.Prelude.{ℕ, ◌+◌, ◌-◌, cond, List, drop, Some, None, Option, Ok, Err, Result, nat_le}
 use Rattle.std.proofs.Math.Seq.{paste}
 use Rattle.table.specs.Checks.{block_row_check, or_refuse_with, place_check}
 use Rattle.rows.specs.Rows.{block_in}
@@ -22,8 +22,6 @@ use Rattle.rows.specs.declared.handle.WritableHandle.{WritableHandle}
 use Rattle.rows.specs.declared.handle.WritableKind.TheVariants.{Own}
 use Rattle.table.specs.declared.table.Table.{Table}
 use Rattle.reserve.specs.Rules.{offset, rule_of}
-use Rattle.reserve.specs.declared.room.Reclaim.{Reclaim}
-use Rattle.reserve.specs.declared.room.Reclaim.TheVariants.{Yes, No}
 use Rattle.reserve.specs.declared.room.Room.{Room}
 use Rattle.reserve.specs.declared.rules.ReserveRule.{ReserveRule}
 use Rattle.reserve.specs.declared.rules.ReserveRule.TheVariants.{Keep, Slide, Grow, Widen, MoveOut}
@@ -81,12 +79,12 @@ carried t m g row h b (MoveOut n) = move_out_of t m row h b n
 abbrev pub room_of : Table → List ℕ → (ℕ → ℕ → ℕ) → ℕ → WritableHandle → ℕ → Result Room Fault × Table × List ℕ
 room_of t m g row h a = carried t m g row h (block_in (block_at t h.block)) (rule_of h (block_in (block_at t h.block)) a)
 
-abbrev pub reclaimed : Table → List ℕ → ℕ → WritableHandle → Block → ReserveRule → Reclaim × Table × List ℕ
-reclaimed t m row h b Keep = (Yes 0, t, m)
-reclaimed t m row h b Slide = (Yes (slide_of t m row h b).0.slid, (slide_of t m row h b).1, (slide_of t m row h b).2)
-reclaimed t m row h b (Grow n) = (No, t, m)
-reclaimed t m row h b (Widen c) = (Yes 0, (widen_of t row h c).1, m)
-reclaimed t m row h b (MoveOut n) = (No, t, m)
+abbrev pub reclaimed : Table → List ℕ → ℕ → WritableHandle → Block → ReserveRule → Option ℕ × Table × List ℕ
+reclaimed t m row h b Keep = (Some 0, t, m)
+reclaimed t m row h b Slide = (Some (slide_of t m row h b).0.slid, (slide_of t m row h b).1, (slide_of t m row h b).2)
+reclaimed t m row h b (Grow n) = (None, t, m)
+reclaimed t m row h b (Widen c) = (Some 0, (widen_of t row h c).1, m)
+reclaimed t m row h b (MoveOut n) = (None, t, m)
 
-abbrev pub reclaim_of : Table → List ℕ → ℕ → WritableHandle → ℕ → Reclaim × Table × List ℕ
+abbrev pub reclaim_of : Table → List ℕ → ℕ → WritableHandle → ℕ → Option ℕ × Table × List ℕ
 reclaim_of t m row h a = reclaimed t m row h (block_in (block_at t h.block)) (rule_of h (block_in (block_at t h.block)) a)

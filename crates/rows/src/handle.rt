@@ -21,6 +21,13 @@ pub struct WritableHandle {
     pub capacity: u32,
 }
 
+// A handle that may write, with the row in which it stands.
+#[derive(Clone, Copy, PartialEq, Eq, Debug)]
+pub struct Held {
+    pub row: u8,
+    pub handle: WritableHandle,
+}
+
 // How a read-only handle holds its bytes, with the block where it has one.
 #[derive(Clone, Copy, PartialEq, Eq, Debug)]
 pub enum ReadOnlyKind {

@@ -2,5 +2,6 @@
 
 pub mod checks;
 pub mod places;
+pub mod sound;
 pub mod table;
 pub mod tally;

@@ -53,7 +53,7 @@ slid_sound : (r : Result Room Fault × Table × List ℕ) → Sound r.1 → Soun
 slid_sound (Ok room, t, m) s = s
 slid_sound (Err e, t, m) s = s
 
-extended_sound : (r : Result Room Fault × Table × List ℕ) (i : ℕ) (h : WritableHandle) (xs : List ℕ) → Sound r.1 → ((room : Room) → r.0 ≡ Ok room → Roomy r.1 i h (length xs) room.handle) → Sound (extended r i xs).1
+pub extended_sound : (r : Result Room Fault × Table × List ℕ) (i : ℕ) (h : WritableHandle) (xs : List ℕ) → Sound r.1 → ((room : Room) → r.0 ≡ Ok room → Roomy r.1 i h (length xs) room.handle) → Sound (extended r i xs).1
 extended_sound (Ok room, t, m) i h xs s roomy =
     let has = roomy room refl in
     sound_cut t i room.handle s has.stands room.handle.start (room.handle.len + length xs) room.handle.capacity (omega arith) (omega arith) refl

@@ -5,8 +5,8 @@
 --   with_capacity_of t n    a new handle that shows nothing
 --   from_of t m f xs        a new handle that shows xs
 --   reserve_of, try_reclaim_of, extend_of   room, room if the block has it, and bytes behind those shown
---   truncate_of, advance_of, release-of, read_of   bytes dropped at the end or the front, the handle ended, bytes read
-use Rattle.std.specs.Prelude.{ℕ, ◌+◌, ◌-◌, cond, List, length, take, drop, Ok, Err, Result, nat_le, nat_lt}
+--   truncate_of, advance_of, read_of   bytes dropped at the end or the front, bytes read
+use Rattle.std.specs.Prelude.{ℕ, ◌+◌, ◌-◌, cond, List, length, take, drop, Option, Ok, Err, Result, nat_le, nat_lt}
 use Rattle.std.proofs.Math.Seq.{paste}
 use Rattle.memory.specs.declared.fault.MemoryFault.{MemoryFault}
 use Rattle.table.specs.Checks.{and_then, block_row_check, handle_row_check, memory_check, no_row, or_refuse, or_refuse_with, place_check, range_check}
@@ -20,7 +20,6 @@ use Rattle.rows.specs.declared.handle.WritableKind.TheVariants.{Own}
 use Rattle.table.specs.declared.table.Table.{Table}
 use Rattle.reserve.specs.Rooms.{reclaim_of, room_of}
 use Rattle.writable.specs.declared.calls.Made.{Made}
-use Rattle.reserve.specs.declared.room.Reclaim.{Reclaim}
 use Rattle.reserve.specs.declared.room.Room.{Room}
 
 abbrev pub fresh : ℕ → ℕ → ℕ → ℕ → WritableHandle
@@ -57,10 +56,10 @@ slid_of (Err e, t, m) = (Err e, t, m)
 abbrev pub reserve_of : Table → List ℕ → (ℕ → MemoryFault) → (ℕ → ℕ → ℕ) → ℕ → WritableHandle → ℕ → Result ℕ Fault × Table × List ℕ
 reserve_of t m f g row h a = or_refuse_with (memory_check t m f row) t m (λ _. slid_of (room_of t m g row h a))
 
-abbrev pub told : Reclaim × Table × List ℕ → Result Reclaim Fault × Table × List ℕ
+abbrev pub told : Option ℕ × Table × List ℕ → Result (Option ℕ) Fault × Table × List ℕ
 told r = (Ok r.0, r.1, r.2)
 
-abbrev pub try_reclaim_of : Table → List ℕ → (ℕ → MemoryFault) → ℕ → WritableHandle → ℕ → Result Reclaim Fault × Table × List ℕ
+abbrev pub try_reclaim_of : Table → List ℕ → (ℕ → MemoryFault) → ℕ → WritableHandle → ℕ → Result (Option ℕ) Fault × Table × List ℕ
 try_reclaim_of t m f row h a = or_refuse_with (memory_check t m f row) t m (λ _. told (reclaim_of t m row h a))
 
 abbrev pub longer : WritableHandle → ℕ → WritableHandle

@@ -1,19 +1,19 @@
 // The calls on writable handles, behind the checks of the ledger and of the tokens.
 ghost use Rattle.std.specs.Prelude.{◌≡◌, ◌+◌, ◌<◌, ◌≤◌, length, IfOk};
-ghost use Rattle.table.specs.Soundness.{Sound};
 ghost use Rattle.table.specs.Tables.{handle_at};
-ghost use Rattle.rows.specs.declared.handle.HandleRow.TheVariants as handle-row;
+ghost use Rattle.rows.specs.declared.handle.HandleRow.TheVariants as handle_row;
 ghost use Rattle.writable.specs.Calls.{advance_of, extend_of, from_of, make_of, read_of, reserve_of, truncate_of, try_reclaim_of, with_capacity_of};
 
 use copying::{read_into, write_bytes};
 use faults::Fault;
 use growth::Growth;
 use memory::interface::Memory;
-use reserve::room::{Reclaim, make_room, reclaim_room};
+use reserve::room::{make_room, reclaim_room};
 use rows::block::Block;
 use rows::class::class_of;
-use rows::handle::{HandleRow, WritableHandle, WritableKind};
+use rows::handle::{HandleRow, Held, WritableHandle, WritableKind};
 use table::checks::{NO_ROW, check_range};
+use table::sound::SoundTable;
 use table::table::Table;
 
 // The row and the place of a new handle.
@@ -69,78 +69,74 @@ pub fn from<M: Memory>(table: &mut Table, mem: &mut M, source: &[u8]) -> Result<
 }
 
 pub fn reserve<M: Memory, G: Growth>(
-    table: &mut Table,
+    table: &mut SoundTable,
     mem: &mut M,
     growth: &G,
-    row: u8,
-    handle: WritableHandle,
+    held: Held,
     additional: u64,
 ) -> Result<u32, Fault>
-    requires sound { ∥ Sound table.old ∥₁ }
-    requires held { handle_at table.old row ≡ handle-row.Writable handle }
-    ensures does { (result, table.new, M.bytes mem.new) ≡ reserve_of table.old (M.bytes mem.old) (M.fault mem.old) (G.Growth.answer growth.now) row handle additional }
+    requires held { handle_at table.old.rows held.row ≡ handle_row.Writable held.handle }
+    ensures does { (result, table.new.rows, M.bytes mem.new) ≡ reserve_of table.old.rows (M.bytes mem.old) (M.fault mem.old) (G.Growth.answer growth.now) held.row held.handle additional }
     ensures faults { M.fault mem.new ≡ M.fault mem.old }
 {
-    table.check_memory(mem, row)?;
-    let room = make_room(table, mem, growth, row, handle, additional)?;
+    table.rows.check_memory(mem, held.row)?;
+    let room = make_room(table, mem, growth, held, additional)?;
     Ok(room.slid)
 }
 
 pub fn try_reclaim<M: Memory>(
-    table: &mut Table,
+    table: &mut SoundTable,
     mem: &mut M,
-    row: u8,
-    handle: WritableHandle,
+    held: Held,
     additional: u64,
-) -> Result<Reclaim, Fault>
-    requires sound { ∥ Sound table.old ∥₁ }
-    requires held { handle_at table.old row ≡ handle-row.Writable handle }
-    ensures does { (result, table.new, M.bytes mem.new) ≡ try_reclaim_of table.old (M.bytes mem.old) (M.fault mem.old) row handle additional }
+) -> Result<Option<u32>, Fault>
+    requires held { handle_at table.old.rows held.row ≡ handle_row.Writable held.handle }
+    ensures does { (result, table.new.rows, M.bytes mem.new) ≡ try_reclaim_of table.old.rows (M.bytes mem.old) (M.fault mem.old) held.row held.handle additional }
     ensures faults { M.fault mem.new ≡ M.fault mem.old }
 {
-    table.check_memory(mem, row)?;
-    Ok(reclaim_room(table, mem, row, handle, additional))
+    table.rows.check_memory(mem, held.row)?;
+    Ok(reclaim_room(table, mem, held, additional))
 }
 
 pub fn extend_from_slice<M: Memory, G: Growth>(
-    table: &mut Table,
+    table: &mut SoundTable,
     mem: &mut M,
     growth: &G,
-    row: u8,
-    handle: WritableHandle,
+    held: Held,
     source: &[u8],
 ) -> Result<u32, Fault>
-    requires sound { ∥ Sound table.old ∥₁ }
-    requires held { handle_at table.old row ≡ handle-row.Writable handle }
-    ensures does { (result, table.new, M.bytes mem.new) ≡ extend_of table.old (M.bytes mem.old) (M.fault mem.old) (G.Growth.answer growth.now) row handle source.now }
+    requires held { handle_at table.old.rows held.row ≡ handle_row.Writable held.handle }
+    ensures does { (result, table.new.rows, M.bytes mem.new) ≡ extend_of table.old.rows (M.bytes mem.old) (M.fault mem.old) (G.Growth.answer growth.now) held.row held.handle source.now }
     ensures faults { M.fault mem.new ≡ M.fault mem.old }
 {
-    table.check_memory(mem, row)?;
-    let room = make_room(table, mem, growth, row, handle, source.len() as u64)?;
+    table.rows.check_memory(mem, held.row)?;
+    let room = make_room(table, mem, growth, held, source.len() as u64)?;
     let handle = room.handle;
     write_bytes(mem, handle.start + handle.len, source);
     let longer = WritableHandle {
         len: handle.len + source.len() as u32,
         ..handle
     };
-    table.set_handle(row, HandleRow::Writable(longer));
+    table.rows.set_handle(held.row, HandleRow::Writable(longer));
     Ok(room.slid)
 }
 
-pub fn truncate(table: &mut Table, row: u8, handle: WritableHandle, len: u64)
-    ensures { table.new ≡ truncate_of table.old row handle len }
+pub fn truncate(table: &mut Table, held: Held, len: u64)
+    ensures { table.new ≡ truncate_of table.old held.row held.handle len }
 {
+    let Held { row, handle } = held;
     if len < handle.len as u64 {
         let len = len as u32;
         table.set_handle(row, HandleRow::Writable(WritableHandle { len, ..handle }));
     }
 }
 
-pub fn advance(table: &mut Table, row: u8, handle: WritableHandle, count: u64) -> Result<(), Fault>
-    requires small { handle.start + handle.len < 4294967296 }
-    requires shows { handle.len ≤ handle.capacity }
-    ensures { (result, table.new) ≡ advance_of table.old row handle count }
+pub fn advance(table: &mut Table, held: Held, count: u64) -> Result<(), Fault>
+    requires small { held.handle.start + held.handle.len < 4294967296 }
+    requires shows { held.handle.len ≤ held.handle.capacity }
+    ensures { (result, table.new) ≡ advance_of table.old held.row held.handle count }
 {
+    let Held { row, handle } = held;
     check_range(count <= handle.len as u64, row)?;
     let count = count as u32;
     let advanced = WritableHandle {

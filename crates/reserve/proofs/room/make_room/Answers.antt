@@ -1,30 +1,39 @@
-use Rattle.std.proofs.Common.{sym, ap, ◌∙◌, subst, arith}
-use Rattle.rows.specs.Rows.{block_in}
+use Rattle.std.proofs.Common.{ap, ◌∙◌}
+use Rattle.rows.specs.declared.handle.Held.{Held}
 use Rattle.table.proofs.SoundSingle.{sound_opens}
-use Rattle.reserve.specs.declared.rules.ReserveRule.TheVariants.{Grow, MoveOut}
-use Rattle.reserve.proofs.HandleFacts.{Enough, handled, rule_enough}
+use Rattle.reserve.specs.Rooms.{grow_of, move_out_of, slide_of}
+use Rattle.reserve.specs.declared.rules.ReserveRule.TheVariants.{Grow, MoveOut, Slide, Widen}
+use Rattle.reserve.proofs.RoomsSound.{rule_sound}
 use Rattle.reserve.proofs.room.make_room.Goals as goal
 
-pub slide-requires : goal.slide-requires
-slide-requires g c =
+pub invariant_of-table-in-Slide : goal.invariant_of-table-in-Slide
+invariant_of-table-in-Slide g c =
     let t = c.args.table.now in
-    let w = handled t c.args.row c.args.handle c.requires.held (sound_opens t c.requires.sound) c.block-block.result (c.block-block.ensures ∙ ap block_in c.block.ensures) in
-    record { before = w.before; inside = omega arith }
+    let m = g.M.Memory.bytes c.args.mem.now in
+    let grown = g.G.Growth.answer c.args.growth.now in
+    let b = c.seat_of-seat.result.block in
+    record { sound = rule_sound t.rows m grown c.args.held.row c.args.held.handle b c.args.additional (sound_opens t.rows t.sound) c.requires.held (g.met.G.Growth.enough c.args.growth.now) c.seat_of-seat.ensures.block Slide c.in-Slide.ensures c.slide.new.table (ap (λ r. r.1) c.slide.ensures.does ∙ ap (λ (x : Held). (slide_of t.rows m x.row x.handle b).1) c.seat_of-seat.ensures.held) }
 
-pub grow-requires : goal.grow-requires
-grow-requires g c =
+pub invariant_of-table-in-Grow : goal.invariant_of-table-in-Grow
+invariant_of-table-in-Grow g c =
     let t = c.args.table.now in
-    let h = c.args.handle in
-    let b = c.block-block.result in
-    let w = handled t c.args.row h c.requires.held (sound_opens t c.requires.sound) b (c.block-block.ensures ∙ ap block_in c.block.ensures) in
-    let enough : Enough h b c.args.additional (Grow c.in-Grow.need) = subst (Enough h b c.args.additional) (sym c.in-Grow.ensures) (rule_enough h b c.args.additional) in
-    record { sound = c.requires.sound; over = w.over; before = w.before; behind = omega arith; whole = c.requires.whole; enough = omega arith }
+    let m = g.M.Memory.bytes c.args.mem.now in
+    let grown = g.G.Growth.answer c.args.growth.now in
+    let b = c.seat_of-seat.result.block in
+    record { sound = rule_sound t.rows m grown c.args.held.row c.args.held.handle b c.args.additional (sound_opens t.rows t.sound) c.requires.held (g.met.G.Growth.enough c.args.growth.now) c.seat_of-seat.ensures.block (Grow c.in-Grow.need) c.in-Grow.ensures c.grow.new.table (ap (λ r. r.1) c.grow.ensures.does ∙ ap (λ (x : Held). (grow_of t.rows m grown x.row x.handle b c.in-Grow.need).1) c.seat_of-seat.ensures.held) }
 
-pub move_out-requires : goal.move_out-requires
-move_out-requires g c =
+pub invariant_of-table-in-Widen : goal.invariant_of-table-in-Widen
+invariant_of-table-in-Widen g c =
     let t = c.args.table.now in
-    let h = c.args.handle in
-    let b = c.block-block.result in
-    let w = handled t c.args.row h c.requires.held (sound_opens t c.requires.sound) b (c.block-block.ensures ∙ ap block_in c.block.ensures) in
-    let enough : Enough h b c.args.additional (MoveOut c.in-MoveOut.size) = subst (Enough h b c.args.additional) (sym c.in-MoveOut.ensures) (rule_enough h b c.args.additional) in
-    record { sound = c.requires.sound; over = w.over; before = w.before; behind = omega arith; whole = c.requires.whole; enough = omega arith }
+    let m = g.M.Memory.bytes c.args.mem.now in
+    let grown = g.G.Growth.answer c.args.growth.now in
+    let b = c.seat_of-seat.result.block in
+    record { sound = rule_sound t.rows m grown c.args.held.row c.args.held.handle b c.args.additional (sound_opens t.rows t.sound) c.requires.held (g.met.G.Growth.enough c.args.growth.now) c.seat_of-seat.ensures.block (Widen c.in-Widen.capacity) c.in-Widen.ensures c.widen.new.table (ap (λ r. r.1) c.widen.ensures) }
+
+pub invariant_of-table-in-MoveOut : goal.invariant_of-table-in-MoveOut
+invariant_of-table-in-MoveOut g c =
+    let t = c.args.table.now in
+    let m = g.M.Memory.bytes c.args.mem.now in
+    let grown = g.G.Growth.answer c.args.growth.now in
+    let b = c.seat_of-seat.result.block in
+    record { sound = rule_sound t.rows m grown c.args.held.row c.args.held.handle b c.args.additional (sound_opens t.rows t.sound) c.requires.held (g.met.G.Growth.enough c.args.growth.now) c.seat_of-seat.ensures.block (MoveOut c.in-MoveOut.size) c.in-MoveOut.ensures c.move_out.new.table (ap (λ r. r.1) c.move_out.ensures.does ∙ ap (λ (x : Held). (move_out_of t.rows m x.row x.handle b c.in-MoveOut.size).1) c.seat_of-seat.ensures.held) }
