@@ -105,7 +105,7 @@ module _ (t : Table) (i j : ℕ) (h g : WritableHandle) (s : Sound t) (is : hand
       (sound_passed_on u i j Free su (row_known t i h s is) (ap handle_free here) (ap handle_free there) refl (fits_free u.fixed _))
 
   module _ (m : List ℕ) (r : ℕ → ℕ → ℕ) (enough : (size n : ℕ) → n ≤ r size n) where
-    appended_sound : (o : Result Room Fault × Table × List ℕ) → Sound o.1 → ((x : Room) → o.0 ≡ Ok x → Roomy o.1 i h g.len x.handle) → handle_at o.1 j ≡ Writable g → Sound (appended o i j g).1
+    pub appended_sound : (o : Result Room Fault × Table × List ℕ) → Sound o.1 → ((x : Room) → o.0 ≡ Ok x → Roomy o.1 i h g.len x.handle) → handle_at o.1 j ≡ Writable g → Sound (appended o i j g).1
     appended_sound (Ok x, u, n) su roomy there =
         let has = roomy x refl in
         let longer-sound = sound_cut u i x.handle su has.stands x.handle.start (x.handle.len + g.len) x.handle.capacity (omega arith) (omega arith) refl in

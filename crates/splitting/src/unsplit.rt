@@ -1,5 +1,5 @@
 // Joining two writable handles, behind the checks of the ledger and of the tokens.
-ghost use Rattle.rows.specs.declared.handle.HandleRow.TheVariants as handle-row;
+ghost use Rattle.rows.specs.declared.handle.HandleRow.TheVariants as handle_row;
 ghost use Rattle.splitting.specs.Joins.{appended, joint_of, merged, taken_over, try_unsplit_of, unsplit_of};
 ghost use Rattle.std.specs.Prelude.{◌≡◌, ◌+◌, ◌<◌, ◌≤◌, ◌≢◌, length};
 ghost use Rattle.reserve.specs.Rooms.{room_of};
@@ -11,7 +11,8 @@ use faults::Fault;
 use growth::Growth;
 use memory::interface::Memory;
 use reserve::room::make_room;
-use rows::handle::{HandleRow, WritableHandle, WritableKind};
+use rows::handle::{HandleRow, Held, WritableHandle, WritableKind};
+use table::sound::SoundTable;
 use table::table::Table;
 
 // How another handle lies to a first one.
@@ -39,40 +40,34 @@ fn joint_of(first: WritableHandle, other: WritableHandle) -> Joint
 }
 
 // The first handle takes what the other holds, and the other ends.
-fn merge(table: &mut Table, row: u8, first: WritableHandle, other_row: u8, other: WritableHandle)
-    requires len { first.len + other.len < 4294967296 }
-    requires capacity { first.capacity + other.capacity < 4294967296 }
-    ensures { table.new ≡ with_handle (detach table.old other_row) row (handle-row.Writable (merged first other)) }
+fn merge(table: &mut Table, first: Held, other: Held)
+    requires len { first.handle.len + other.handle.len < 4294967296 }
+    requires capacity { first.handle.capacity + other.handle.capacity < 4294967296 }
+    ensures { table.new ≡ with_handle (detach table.old other.row) first.row (handle_row.Writable (merged first.handle other.handle)) }
 {
-    table.detach(other_row);
+    table.detach(other.row);
     let merged = WritableHandle {
-        len: first.len + other.len,
-        capacity: first.capacity + other.capacity,
-        ..first
+        len: first.handle.len + other.handle.len,
+        capacity: first.handle.capacity + other.handle.capacity,
+        ..first.handle
     };
-    table.set_handle(row, HandleRow::Writable(merged));
+    table.set_handle(first.row, HandleRow::Writable(merged));
 }
 
 // Joins the other handle to the first where they lie so, and says whether it did.
-pub fn try_unsplit(
-    table: &mut Table,
-    row: u8,
-    first: WritableHandle,
-    other_row: u8,
-    other: WritableHandle,
-) -> bool
+pub fn try_unsplit(table: &mut Table, first: Held, other: Held) -> bool
     requires sound { ∥ Sound table.old ∥₁ }
-    requires held { handle_at table.old row ≡ handle-row.Writable first }
-    requires other_held { handle_at table.old other_row ≡ handle-row.Writable other }
-    ensures { (result, table.new) ≡ try_unsplit_of table.old row first other_row other }
+    requires held { handle_at table.old first.row ≡ handle_row.Writable first.handle }
+    requires other_held { handle_at table.old other.row ≡ handle_row.Writable other.handle }
+    ensures { (result, table.new) ≡ try_unsplit_of table.old first.row first.handle other.row other.handle }
 {
-    match joint_of(first, other) {
+    match joint_of(first.handle, other.handle) {
         Joint::Nothing => {
-            table.detach(other_row);
+            table.detach(other.row);
             true
         }
         Joint::Adjacent => {
-            merge(table, row, first, other_row, other);
+            merge(table, first, other);
             true
         }
         Joint::Apart => false,
@@ -80,68 +75,63 @@ pub fn try_unsplit(
 }
 
 // The first handle ends, and its row takes over the other.
-fn take_over(table: &mut Table, row: u8, other_row: u8, other: WritableHandle)
-    ensures { table.new ≡ taken_over table.old row other_row other }
+fn take_over(table: &mut Table, row: u8, other: Held)
+    ensures { table.new ≡ taken_over table.old row other.row other.handle }
 {
     table.detach(row);
-    table.set_handle(other_row, HandleRow::Free);
-    table.set_handle(row, HandleRow::Writable(other));
+    table.set_handle(other.row, HandleRow::Free);
+    table.set_handle(row, HandleRow::Writable(other.handle));
 }
 
 // Writes the other's bytes behind those of the first, and ends the other.
 fn append<M: Memory, G: Growth>(
-    table: &mut Table,
+    table: &mut SoundTable,
     mem: &mut M,
     growth: &G,
-    row: u8,
-    first: WritableHandle,
-    other_row: u8,
-    other: WritableHandle,
+    first: Held,
+    other: Held,
 ) -> Result<u32, Fault>
-    requires sound { ∥ Sound table.old ∥₁ }
-    requires held { handle_at table.old row ≡ handle-row.Writable first }
-    requires other_held { handle_at table.old other_row ≡ handle-row.Writable other }
-    requires two { row ≢ other_row }
-    requires whole { table.old.limit ≤ length (M.bytes mem.old) }
-    ensures does { (result, table.new, M.bytes mem.new) ≡ appended (room_of table.old (M.bytes mem.old) (G.Growth.answer growth.now) row first other.len) row other_row other }
+    requires held { handle_at table.old.rows first.row ≡ handle_row.Writable first.handle }
+    requires other_held { handle_at table.old.rows other.row ≡ handle_row.Writable other.handle }
+    requires two { first.row ≢ other.row }
+    requires whole { table.old.rows.limit ≤ length (M.bytes mem.old) }
+    ensures does { (result, table.new.rows, M.bytes mem.new) ≡ appended (room_of table.old.rows (M.bytes mem.old) (G.Growth.answer growth.now) first.row first.handle other.handle.len) first.row other.row other.handle }
     ensures faults { M.fault mem.new ≡ M.fault mem.old }
 {
-    let room = make_room(table, mem, growth, row, first, other.len as u64)?;
+    let room = make_room(table, mem, growth, first, other.handle.len as u64)?;
     let handle = room.handle;
-    copy_bytes(mem, other.start, handle.start + handle.len, other.len);
+    copy_bytes(mem, other.handle.start, handle.start + handle.len, other.handle.len);
     let longer = WritableHandle {
-        len: handle.len + other.len,
+        len: handle.len + other.handle.len,
         ..handle
     };
-    table.set_handle(row, HandleRow::Writable(longer));
-    table.detach(other_row);
+    let rows = &mut table.rows;
+    rows.set_handle(first.row, HandleRow::Writable(longer));
+    rows.detach(other.row);
     Ok(room.slid)
 }
 
 // Joins the other handle to the first, by its bytes where they do not lie so, and answers the bytes that slid.
 pub fn unsplit<M: Memory, G: Growth>(
-    table: &mut Table,
+    table: &mut SoundTable,
     mem: &mut M,
     growth: &G,
-    row: u8,
-    first: WritableHandle,
-    other_row: u8,
-    other: WritableHandle,
+    first: Held,
+    other: Held,
 ) -> Result<u32, Fault>
-    requires sound { ∥ Sound table.old ∥₁ }
-    requires held { handle_at table.old row ≡ handle-row.Writable first }
-    requires other_held { handle_at table.old other_row ≡ handle-row.Writable other }
-    requires two { row ≢ other_row }
-    ensures does { (result, table.new, M.bytes mem.new) ≡ unsplit_of table.old (M.bytes mem.old) (M.fault mem.old) (G.Growth.answer growth.now) row first other_row other }
+    requires held { handle_at table.old.rows first.row ≡ handle_row.Writable first.handle }
+    requires other_held { handle_at table.old.rows other.row ≡ handle_row.Writable other.handle }
+    requires two { first.row ≢ other.row }
+    ensures does { (result, table.new.rows, M.bytes mem.new) ≡ unsplit_of table.old.rows (M.bytes mem.old) (M.fault mem.old) (G.Growth.answer growth.now) first.row first.handle other.row other.handle }
     ensures faults { M.fault mem.new ≡ M.fault mem.old }
 {
-    table.check_memory(mem, row)?;
-    if first.len == 0 {
-        take_over(table, row, other_row, other);
+    table.rows.check_memory(mem, first.row)?;
+    if first.handle.len == 0 {
+        take_over(&mut table.rows, first.row, other);
         return Ok(0);
     }
-    if try_unsplit(table, row, first, other_row, other) {
+    if try_unsplit(&mut table.rows, first, other) {
         return Ok(0);
     }
-    append(table, mem, growth, row, first, other_row, other)
+    append(table, mem, growth, first, other)
 }

@@ -1,21 +1,35 @@
-use Rattle.std.proofs.Common.{◌<◌, sym, subst, arith}
+use Rattle.std.proofs.Common.{◌<◌, sym, ap, ◌∙◌, subst, arith}
 use Rattle.reserve.proofs.HandlesSound.{over}
 use Rattle.rows.specs.Rows.{count_of}
 use Rattle.table.proofs.Passing.{range_passed}
 use Rattle.table.proofs.SoundSingle.{sound_opens}
+use Rattle.table.specs.Soundness.{Sound}
 use Rattle.table.specs.Tables.{block_at}
 use Rattle.splitting.proofs.Counting.{one_more}
+use Rattle.splitting.proofs.SplitsSound.{cut_to_sound}
+use Rattle.splitting.specs.Splits.{cut_in_two, back}
 use Rattle.splitting.proofs.split.split_to.Goals as goal
 
 pub back-requires : goal.back-requires
 back-requires c =
-    let t = c.args.table.now in
-    let h = c.args.handle in
-    let w = over t c.args.row h (sound_opens t c.requires.sound) c.requires.held in
-    omega (arith, range_passed c.args.at h.len c.args.row (sym c.in_ok-check_range.ensures))
+    let t = c.args.table.now.rows in
+    let h = c.args.held.handle in
+    let w = over t c.args.held.row h (sound_opens t c.args.table.now.sound) c.requires in
+    omega (arith, range_passed c.args.at h.len c.args.held.row (sym c.in_ok-check_range.ensures))
 
 pub cut_in_two-requires : goal.cut_in_two-requires
 cut_in_two-requires c =
-    let t = c.args.table.now in
+    let t = c.args.table.now.rows in
     subst (λ h. count_of (block_at t h.block) < 255) (sym c.front.ensures)
-    (one_more t c.args.row c.args.handle c.in_ok-new.new c.requires.sound c.requires.held (sym c.in_ok-new.ensures))
+    (one_more t c.args.held.row c.args.held.handle c.in_ok-new.new c.args.table.now.sound c.requires (sym c.in_ok-new.ensures))
+
+pub invariant_of-table : goal.invariant_of-table
+invariant_of-table c =
+    let t = c.args.table.now.rows in
+    let i = c.args.held.row in
+    let h = c.args.held.handle in
+    let at = c.args.at in
+    let new = c.in_ok-new.new in
+    let within = range_passed at h.len i (sym c.in_ok-check_range.ensures) in
+    let parts = ap (λ x. cut_in_two t i x new c.front.result) c.back.ensures ∙ ap (λ x. cut_in_two t i (back h at) new x) c.front.ensures in
+    record { sound = ∣ subst Sound (sym (c.cut_in_two.ensures ∙ parts)) (cut_to_sound t i h (sound_opens t c.args.table.now.sound) c.requires at new within (sym c.in_ok-new.ensures)) ∣₁ }

@@ -7,6 +7,6 @@ pub merge-requires : goal.merge-requires
 merge-requires c =
     let t = c.args.table.now in
     let s = sound_opens t c.requires.sound in
-    let first = over t c.args.row c.args.first s c.requires.held in
-    let other = over t c.args.other_row c.args.other s c.requires.other_held in
+    let first = over t c.args.first.row c.args.first.handle s c.requires.held in
+    let other = over t c.args.other.row c.args.other.handle s c.requires.other_held in
     record { len = omega arith; capacity = omega arith }
