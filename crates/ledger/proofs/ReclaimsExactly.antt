@@ -1,5 +1,5 @@
 -- A sound table reclaims exactly what its blocks have.
-use Rattle.std.proofs.Common.{◌≡◌, ℕ, List, Ok, Err, Decides, Result, sym, refl, ap, ◌∙◌, subst, arith}
+use Rattle.std.proofs.Common.{◌≡◌, ℕ, List, Ok, Err, Decides, Option, Result, sym, refl, ap, ◌∙◌, subst, arith}
 use Rattle.memory.specs.declared.fault.MemoryFault.{MemoryFault}
 use Rattle.table.specs.Checks.{memory_check, or_refuse_with}
 use Rattle.table.specs.Soundness.{Sound}
@@ -13,7 +13,6 @@ use Rattle.writable.specs.Calls.{told, try_reclaim_of}
 use Rattle.reserve.specs.Reclaiming.{Reclaimable}
 use Rattle.reserve.specs.Rooms.{reclaim_of, reclaimed}
 use Rattle.reserve.specs.Rules.{rule_of}
-use Rattle.reserve.specs.declared.room.Reclaim.{Reclaim}
 use Rattle.reserve.specs.declared.rules.ReserveRule.{ReserveRule}
 use Rattle.reserve.specs.declared.rules.ReserveRule.TheVariants.{Keep, Slide, Grow, Widen, MoveOut}
 use Rattle.table.proofs.Passing.{refused_ok}
@@ -31,11 +30,11 @@ module _ (t : Table) (m : List ℕ) (row : ℕ) where
   yes_by_rule h b (MoveOut n) = refl
 
 module _ (t : Table) (m : List ℕ) (f : ℕ → MemoryFault) (k : BytesMut) (a : ℕ) (s : Sound t) where
-  behind_memory : (h : WritableHandle) (x : Reclaim) (c : Result (Unit {0}) Fault) → (or_refuse_with c t m (λ _. told (reclaim_of t m k.row h a))).0 ≡ Ok x → x ≡ (reclaim_of t m k.row h a).0
+  behind_memory : (h : WritableHandle) (x : Option ℕ) (c : Result (Unit {0}) Fault) → (or_refuse_with c t m (λ _. told (reclaim_of t m k.row h a))).0 ≡ Ok x → x ≡ (reclaim_of t m k.row h a).0
   behind_memory h x (Ok u) e = let same : (reclaim_of t m k.row h a).0 ≡ x = cc in sym same
   behind_memory h x (Err z) e = refused_ok e
 
-  exactly : (h : WritableHandle) (x : Reclaim) → writable_check t k ≡ Ok h → (try_reclaim_of t m f k.row h a).0 ≡ Ok x → Decides (said_yes x) (Reclaimable h (its_block t h) a)
+  exactly : (h : WritableHandle) (x : Option ℕ) → writable_check t k ≡ Ok h → (try_reclaim_of t m f k.row h a).0 ≡ Ok x → Decides (said_yes x) (Reclaimable h (its_block t h) a)
   exactly h x e q =
       let held = (known t k h e).held in
       let o = over t k.row h s held in
@@ -43,7 +42,7 @@ module _ (t : Table) (m : List ℕ) (f : ℕ → MemoryFault) (k : BytesMut) (a 
       (reclaims_exactly h (its_block t h) a (omega (arith, o.inside, s.small)) o.counted o.alone)
 
   -- what try_reclaim answers to a known token
-  pub reclaims_what_it_has : (g : WritableHandle) (r : Result Reclaim Fault) → writable_check t k ≡ Ok g → r ≡ (try_reclaim_of t m f k.row g a).0 → ReclaimsExactly t k a r
+  pub reclaims_what_it_has : (g : WritableHandle) (r : Result (Option ℕ) Fault) → writable_check t k ≡ Ok g → r ≡ (try_reclaim_of t m f k.row g a).0 → ReclaimsExactly t k a r
   reclaims_what_it_has g r e q h x e' q' =
       let same : g ≡ h = cc in
       exactly h x e' (subst (λ y. (try_reclaim_of t m f k.row y a).0 ≡ Ok x) same (sym q ∙ q'))

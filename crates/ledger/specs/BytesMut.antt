@@ -4,7 +4,8 @@
 --   writable_check t k    the handle of the token, in an open ledger that knows it
 --   pair_check t k o      the handles of two tokens of different rows
 --   handed_back o r       what a call answers that took the token o: a refusal gives it back
---   joining b o           what trying to join the handle of o answers: joined, or declined with the token
+--   joining b o           what trying to join the handle of o answers: done, or the token where it declines
+--   handle_found, handles_found   what was found of a token, or of two, without the rows
 use Rattle.std.specs.Prelude.{ℕ, Bool, true, false, cond, List, Some, None, Ok, Err, Option, Result, ◌==◌}
 use Rattle.memory.specs.declared.fault.MemoryFault.{MemoryFault}
 use Rattle.std.specs.Option.{ok_or}
@@ -14,16 +15,14 @@ use Rattle.faults.specs.declared.Fault.{Fault}
 use Rattle.faults.specs.declared.Fault.TheVariants as fault
 use Rattle.rows.specs.declared.handle.HandleRow.{HandleRow}
 use Rattle.rows.specs.declared.handle.HandleRow.TheVariants as row
+use Rattle.rows.specs.declared.handle.Held.{Held}
 use Rattle.rows.specs.declared.handle.WritableHandle.{WritableHandle}
 use Rattle.table.specs.declared.table.Table.{Table}
 use Rattle.writable.specs.Calls.{advance_of, extend_of, from_of, read_of, reserve_of, truncate_of, try_reclaim_of, with_capacity_of}
-use Rattle.reserve.specs.declared.room.Reclaim.{Reclaim}
 use Rattle.splitting.specs.Joins.{try_unsplit_of, unsplit_of}
 use Rattle.splitting.specs.Splits.{split_off_of, split_to_of}
 use Rattle.ledger.specs.declared.bytes_mut.BytesMut.{BytesMut}
 use Rattle.ledger.specs.declared.bytes_mut.Refused.{Refused}
-use Rattle.ledger.specs.declared.bytes_mut.TryUnsplit.{TryUnsplit}
-use Rattle.ledger.specs.declared.bytes_mut.TryUnsplit.TheVariants.{Joined, Declined}
 
 abbrev pub token_of : Table → ℕ → BytesMut
 token_of t i = record { ledger = t.number; row = i; spent = false }
@@ -43,6 +42,14 @@ different t k o h g = cond (k.row == o.row) (Err (fault.SameRow k.row)) (Ok (h, 
 
 abbrev pub pair_check : Table → BytesMut → BytesMut → Result (WritableHandle × WritableHandle) Fault
 pair_check t k o = and_then (writable_check t k) (λ h. and_then (writable_check t o) (λ g. different t k o h g))
+
+abbrev pub handle_found : Result Held Fault → Result WritableHandle Fault
+handle_found (Ok x) = Ok x.handle
+handle_found (Err e) = Err e
+
+abbrev pub handles_found : Result (Held × Held) Fault → Result (WritableHandle × WritableHandle) Fault
+handles_found (Ok p) = Ok (p.0.handle, p.1.handle)
+handles_found (Err e) = Err e
 
 abbrev pub tokened : Table → Result ℕ Fault → Result BytesMut Fault
 tokened t (Ok i) = Ok (token_of t i)
@@ -85,21 +92,21 @@ advance_call t k n = or_refuse (writable_check t k) t (λ h. advance_of t k.row 
 abbrev pub reserve_call : Table → List ℕ → (ℕ → MemoryFault) → (ℕ → ℕ → ℕ) → BytesMut → ℕ → Result ℕ Fault × Table × List ℕ
 reserve_call t m f g k a = or_refuse_with (writable_check t k) t m (λ h. reserve_of t m f g k.row h a)
 
-abbrev pub try_reclaim_call : Table → List ℕ → (ℕ → MemoryFault) → BytesMut → ℕ → Result Reclaim Fault × Table × List ℕ
+abbrev pub try_reclaim_call : Table → List ℕ → (ℕ → MemoryFault) → BytesMut → ℕ → Result (Option ℕ) Fault × Table × List ℕ
 try_reclaim_call t m f k a = or_refuse_with (writable_check t k) t m (λ h. try_reclaim_of t m f k.row h a)
 
 abbrev pub extend_call : Table → List ℕ → (ℕ → MemoryFault) → (ℕ → ℕ → ℕ) → BytesMut → List ℕ → Result ℕ Fault × Table × List ℕ
 extend_call t m f g k xs = or_refuse_with (writable_check t k) t m (λ h. extend_of t m f g k.row h xs)
 
-abbrev pub joining : Bool → BytesMut → TryUnsplit
-joining true o = Joined
-joining false o = Declined o
+abbrev pub joining : Bool → BytesMut → Result Unit BytesMut
+joining true o = Ok tt
+joining false o = Err o
 
-abbrev pub try_unsplit_known : Result (WritableHandle × WritableHandle) Fault → Table → BytesMut → BytesMut → Result TryUnsplit Refused × Table
+abbrev pub try_unsplit_known : Result (WritableHandle × WritableHandle) Fault → Table → BytesMut → BytesMut → Result (Result Unit BytesMut) Refused × Table
 try_unsplit_known (Ok p) t k o = (Ok (joining (try_unsplit_of t k.row p.0 o.row p.1).0 o), (try_unsplit_of t k.row p.0 o.row p.1).1)
 try_unsplit_known (Err e) t k o = (Err (record { fault = e; token = o }), t)
 
-abbrev pub try_unsplit_call : Table → BytesMut → BytesMut → Result TryUnsplit Refused × Table
+abbrev pub try_unsplit_call : Table → BytesMut → BytesMut → Result (Result Unit BytesMut) Refused × Table
 try_unsplit_call t k o = try_unsplit_known (pair_check t k o) t k o
 
 abbrev pub handed_back : BytesMut → Result ℕ Fault × Table × List ℕ → Result ℕ Refused × Table × List ℕ

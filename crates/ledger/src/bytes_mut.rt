@@ -1,14 +1,15 @@
 // Writable handles: the calls on BytesMut.
-ghost use Rattle.ledger.specs.BytesMut.{advance_call, capacity_call, extend_call, from_call, len_call, pair_check, read_call, release_call, reserve_call, split_call, split_off_call, split_to_call, truncate_call, try_reclaim_call, try_unsplit_call, unsplit_call, with_capacity_call, writable_check};
+ghost use Rattle.ledger.specs.BytesMut.{advance_call, capacity_call, extend_call, from_call, len_call, pair_check, handle_found, handles_found, read_call, release_call, reserve_call, split_call, split_off_call, split_to_call, token_of, truncate_call, try_reclaim_call, try_unsplit_call, unsplit_call, with_capacity_call, writable_check};
 ghost use Rattle.ledger.specs.Reclaims.{ReclaimsExactly};
-ghost use Rattle.std.specs.Prelude.{◌≡◌, true};
+ghost use Rattle.rows.specs.declared.handle.HandleRow.TheVariants as handle_row;
+ghost use Rattle.std.specs.Prelude.{◌≡◌, ◌≢◌, true, IfOk};
+ghost use Rattle.table.specs.Tables.{handle_at};
 
 use crate::ledger::Ledger;
 use faults::Fault;
 use growth::Growth;
 use memory::interface::Memory;
-use reserve::room::Reclaim;
-use rows::handle::{HandleRow, WritableHandle};
+use rows::handle::{HandleRow, Held};
 use splitting::{split, unsplit};
 use table::checks::NO_ROW;
 use table::table::Table;
@@ -39,54 +40,57 @@ pub struct Refused {
     pub token: BytesMut,
 }
 
-// What became of joining another handle to a first.
-pub enum TryUnsplit {
-    Joined,
-    // They do not lie side by side: the other handle stays, and its token comes back.
-    Declined(BytesMut),
-}
-
-// The handle of a token, once the ledger is open and knows it.
-fn known(table: &Table, token: &BytesMut) -> Result<WritableHandle, Fault>
-    ensures { result ≡ writable_check table.now token.now }
+// The handle of a token and its row, once the ledger is open and knows it.
+fn known(table: &Table, token: &BytesMut) -> Result<Held, Fault>
+    ensures answer { handle_found result ≡ writable_check table.now token.now }
+    ensures row { IfOk result (λ held. held.row ≡ token.now.row) }
+    ensures held { IfOk result (λ held. handle_at table.now held.row ≡ handle_row.Writable held.handle) }
 {
-    table.check_open(token.row)?;
-    if token.ledger == table.number {
-        if let HandleRow::Writable(handle) = table.handle(token.row) {
-            return Ok(handle);
-        }
+    let row = token.row;
+    table.check_open(row)?;
+    match table.handle(row) {
+        HandleRow::Writable(handle) if token.ledger == table.number => Ok(Held { row, handle }),
+        _ => Err(Fault::UnknownToken { row }),
     }
-    Err(Fault::UnknownToken { row: token.row })
 }
 
 // The handles of two tokens that name different rows.
-fn known_both(
-    table: &Table,
-    token: &BytesMut,
-    other: &BytesMut,
-) -> Result<(WritableHandle, WritableHandle), Fault>
-    ensures { result ≡ pair_check table.now token.now other.now }
+fn known_both(table: &Table, token: &BytesMut, other: &BytesMut) -> Result<(Held, Held), Fault>
+    ensures answer { handles_found result ≡ pair_check table.now token.now other.now }
+    ensures rows { IfOk result (λ pair. (pair.0.row ≡ token.now.row) × (pair.1.row ≡ other.now.row)) }
+    ensures held { IfOk result (λ pair. handle_at table.now pair.0.row ≡ handle_row.Writable pair.0.handle) }
+    ensures other_held { IfOk result (λ pair. handle_at table.now pair.1.row ≡ handle_row.Writable pair.1.handle) }
+    ensures two { IfOk result (λ pair. pair.0.row ≢ pair.1.row) }
 {
     let first = known(table, token)?;
     let second = known(table, other)?;
-    if token.row == other.row {
-        return Err(Fault::SameRow { row: token.row });
+    if first.row == second.row {
+        return Err(Fault::SameRow { row: first.row });
     }
     Ok((first, second))
+}
+
+impl Ledger {
+    // The token of a row.
+    fn token(&self, row: u8) -> BytesMut
+        ensures { result ≡ token_of self.now.table.rows row }
+    {
+        BytesMut {
+            ledger: self.table.rows.number,
+            row,
+            spent: false,
+        }
+    }
 }
 
 impl BytesMut {
     // A handle that shows nothing, over a block of its own of this capacity. Refusals 2, 7, 8, 9.
     pub fn with_capacity(ledger: &mut Ledger, capacity: u64) -> Result<BytesMut, Fault>
-        ensures { (result, ledger.new.table) ≡ with_capacity_call ledger.old.table capacity }
+        ensures { (result, ledger.new.table.rows) ≡ with_capacity_call ledger.old.table.rows capacity }
     {
-        ledger.table.check_open(NO_ROW)?;
-        let row = calls::with_capacity(&mut ledger.table, capacity)?;
-        Ok(BytesMut {
-            ledger: ledger.table.number,
-            row,
-            spent: false,
-        })
+        ledger.table.rows.check_open(NO_ROW)?;
+        let row = calls::with_capacity(&mut ledger.table.rows, capacity)?;
+        Ok(ledger.token(row))
     }
 
     // A handle that shows these bytes, over a block of its own of their length. Refusals 2, 5, 7, 8, 9.
@@ -95,32 +99,28 @@ impl BytesMut {
         mem: &mut M,
         source: &[u8],
     ) -> Result<BytesMut, Fault>
-        ensures does { (result, ledger.new.table, M.bytes mem.new) ≡ from_call ledger.old.table (M.bytes mem.old) (M.fault mem.old) source.now }
+        ensures does { (result, ledger.new.table.rows, M.bytes mem.new) ≡ from_call ledger.old.table.rows (M.bytes mem.old) (M.fault mem.old) source.now }
         ensures faults { M.fault mem.new ≡ M.fault mem.old }
     {
-        ledger.table.check_open(NO_ROW)?;
-        let row = calls::from(&mut ledger.table, mem, source)?;
-        Ok(BytesMut {
-            ledger: ledger.table.number,
-            row,
-            spent: false,
-        })
+        ledger.table.rows.check_open(NO_ROW)?;
+        let row = calls::from(&mut ledger.table.rows, mem, source)?;
+        Ok(ledger.token(row))
     }
 
     // How many bytes the handle shows. Refusals 2, 3.
     pub fn len(&self, ledger: &Ledger) -> Result<u32, Fault>
-        ensures { result ≡ len_call ledger.now.table self.now }
+        ensures { result ≡ len_call ledger.now.table.rows self.now }
     {
-        let handle = known(&ledger.table, self)?;
-        Ok(handle.len)
+        let held = known(&ledger.table.rows, self)?;
+        Ok(held.handle.len)
     }
 
     // How many bytes the handle holds. Refusals 2, 3.
     pub fn capacity(&self, ledger: &Ledger) -> Result<u32, Fault>
-        ensures { result ≡ capacity_call ledger.now.table self.now }
+        ensures { result ≡ capacity_call ledger.now.table.rows self.now }
     {
-        let handle = known(&ledger.table, self)?;
-        Ok(handle.capacity)
+        let held = known(&ledger.table.rows, self)?;
+        Ok(held.handle.capacity)
     }
 
     // Fills the buffer with the bytes that the handle shows, from the index `at` on. Refusals 2, 3, 5, 6.
@@ -131,15 +131,15 @@ impl BytesMut {
         at: u64,
         out: &mut [u8],
     ) -> Result<(), Fault>
-        ensures { (result, out.new) ≡ read_call ledger.now.table (M.bytes mem.now) (M.fault mem.now) self.now at out.old }
+        ensures { (result, out.new) ≡ read_call ledger.now.table.rows (M.bytes mem.now) (M.fault mem.now) self.now at out.old }
     {
-        let handle = known(&ledger.table, self)?;
+        let held = known(&ledger.table.rows, self)?;
         calls::read(
-            &ledger.table,
+            &ledger.table.rows,
             mem,
-            self.row,
-            handle.start,
-            handle.len,
+            held.row,
+            held.handle.start,
+            held.handle.len,
             at,
             out,
         )
@@ -147,58 +147,46 @@ impl BytesMut {
 
     // Keeps the first `at` bytes that the handle holds, and gives the rest to a new handle. Refusals 2, 3, 6, 7.
     pub fn split_off(&self, ledger: &mut Ledger, at: u64) -> Result<BytesMut, Fault>
-        ensures { (result, ledger.new.table) ≡ split_off_call ledger.old.table self.now at }
+        ensures { (result, ledger.new.table.rows) ≡ split_off_call ledger.old.table.rows self.now at }
     {
-        let handle = known(&ledger.table, self)?;
-        let row = split::split_off(&mut ledger.table, self.row, handle, at)?;
-        Ok(BytesMut {
-            ledger: ledger.table.number,
-            row,
-            spent: false,
-        })
+        let held = known(&ledger.table.rows, self)?;
+        let row = split::split_off(&mut ledger.table, held, at)?;
+        Ok(ledger.token(row))
     }
 
     // Gives the first `at` bytes shown to a new handle, and keeps the rest. Refusals 2, 3, 6, 7.
     pub fn split_to(&self, ledger: &mut Ledger, at: u64) -> Result<BytesMut, Fault>
-        ensures { (result, ledger.new.table) ≡ split_to_call ledger.old.table self.now at }
+        ensures { (result, ledger.new.table.rows) ≡ split_to_call ledger.old.table.rows self.now at }
     {
-        let handle = known(&ledger.table, self)?;
-        let row = split::split_to(&mut ledger.table, self.row, handle, at)?;
-        Ok(BytesMut {
-            ledger: ledger.table.number,
-            row,
-            spent: false,
-        })
+        let held = known(&ledger.table.rows, self)?;
+        let row = split::split_to(&mut ledger.table, held, at)?;
+        Ok(ledger.token(row))
     }
 
     // Gives all bytes shown to a new handle, and keeps the spare ones. Refusals 2, 3, 7.
     pub fn split(&self, ledger: &mut Ledger) -> Result<BytesMut, Fault>
-        ensures { (result, ledger.new.table) ≡ split_call ledger.old.table self.now }
+        ensures { (result, ledger.new.table.rows) ≡ split_call ledger.old.table.rows self.now }
     {
-        let handle = known(&ledger.table, self)?;
-        let row = split::split_to(&mut ledger.table, self.row, handle, handle.len as u64)?;
-        Ok(BytesMut {
-            ledger: ledger.table.number,
-            row,
-            spent: false,
-        })
+        let held = known(&ledger.table.rows, self)?;
+        let row = split::split_to(&mut ledger.table, held, held.handle.len as u64)?;
+        Ok(ledger.token(row))
     }
 
     // Lowers the length to `len` where it is larger. Refusals 2, 3.
     pub fn truncate(&self, ledger: &mut Ledger, len: u64) -> Result<(), Fault>
-        ensures { (result, ledger.new.table) ≡ truncate_call ledger.old.table self.now len }
+        ensures { (result, ledger.new.table.rows) ≡ truncate_call ledger.old.table.rows self.now len }
     {
-        let handle = known(&ledger.table, self)?;
-        calls::truncate(&mut ledger.table, self.row, handle, len);
+        let held = known(&ledger.table.rows, self)?;
+        calls::truncate(&mut ledger.table.rows, held, len);
         Ok(())
     }
 
     // Drops the first `count` bytes: the start moves, the ends do not. Refusals 2, 3, 6.
     pub fn advance(&self, ledger: &mut Ledger, count: u64) -> Result<(), Fault>
-        ensures { (result, ledger.new.table) ≡ advance_call ledger.old.table self.now count }
+        ensures { (result, ledger.new.table.rows) ≡ advance_call ledger.old.table.rows self.now count }
     {
-        let handle = known(&ledger.table, self)?;
-        calls::advance(&mut ledger.table, self.row, handle, count)
+        let held = known(&ledger.table.rows, self)?;
+        calls::advance(&mut ledger.table.rows, held, count)
     }
 
     // Room for so many bytes more, by the first rule that fits, and the bytes that slid. Refusals 2, 3, 5, 8, 9.
@@ -209,26 +197,26 @@ impl BytesMut {
         growth: &G,
         additional: u64,
     ) -> Result<u32, Fault>
-        ensures does { (result, ledger.new.table, M.bytes mem.new) ≡ reserve_call ledger.old.table (M.bytes mem.old) (M.fault mem.old) (G.Growth.answer growth.now) self.now additional }
+        ensures does { (result, ledger.new.table.rows, M.bytes mem.new) ≡ reserve_call ledger.old.table.rows (M.bytes mem.old) (M.fault mem.old) (G.Growth.answer growth.now) self.now additional }
         ensures faults { M.fault mem.new ≡ M.fault mem.old }
     {
-        let handle = known(&ledger.table, self)?;
-        calls::reserve(&mut ledger.table, mem, growth, self.row, handle, additional)
+        let held = known(&ledger.table.rows, self)?;
+        calls::reserve(&mut ledger.table, mem, growth, held, additional)
     }
 
-    // The same where the handle's own block has the room, and no otherwise. Refusals 2, 3, 5.
+    // The same where the handle's own block has the room, and else none. Refusals 2, 3, 5.
     pub fn try_reclaim<M: Memory>(
         &self,
         ledger: &mut Ledger,
         mem: &mut M,
         additional: u64,
-    ) -> Result<Reclaim, Fault>
-        ensures does { (result, ledger.new.table, M.bytes mem.new) ≡ try_reclaim_call ledger.old.table (M.bytes mem.old) (M.fault mem.old) self.now additional }
-        ensures reclaims_exactly { ReclaimsExactly ledger.old.table self.now additional result }
+    ) -> Result<Option<u32>, Fault>
+        ensures does { (result, ledger.new.table.rows, M.bytes mem.new) ≡ try_reclaim_call ledger.old.table.rows (M.bytes mem.old) (M.fault mem.old) self.now additional }
+        ensures reclaims_exactly { ReclaimsExactly ledger.old.table.rows self.now additional result }
         ensures faults { M.fault mem.new ≡ M.fault mem.old }
     {
-        let handle = known(&ledger.table, self)?;
-        calls::try_reclaim(&mut ledger.table, mem, self.row, handle, additional)
+        let held = known(&ledger.table.rows, self)?;
+        calls::try_reclaim(&mut ledger.table, mem, held, additional)
     }
 
     // Reserves the slice's length, writes it behind the bytes shown, and answers the bytes that slid. Refusals 2, 3, 5, 8, 9.
@@ -239,11 +227,11 @@ impl BytesMut {
         growth: &G,
         source: &[u8],
     ) -> Result<u32, Fault>
-        ensures does { (result, ledger.new.table, M.bytes mem.new) ≡ extend_call ledger.old.table (M.bytes mem.old) (M.fault mem.old) (G.Growth.answer growth.now) self.now source.now }
+        ensures does { (result, ledger.new.table.rows, M.bytes mem.new) ≡ extend_call ledger.old.table.rows (M.bytes mem.old) (M.fault mem.old) (G.Growth.answer growth.now) self.now source.now }
         ensures faults { M.fault mem.new ≡ M.fault mem.old }
     {
-        let handle = known(&ledger.table, self)?;
-        calls::extend_from_slice(&mut ledger.table, mem, growth, self.row, handle, source)
+        let held = known(&ledger.table.rows, self)?;
+        calls::extend_from_slice(&mut ledger.table, mem, growth, held, source)
     }
 
     // Joins the other handle where it lies behind this one's bytes or holds none; else its token comes back. Refusals 2, 3, 4.
@@ -251,22 +239,22 @@ impl BytesMut {
         &self,
         ledger: &mut Ledger,
         mut other: BytesMut,
-    ) -> Result<TryUnsplit, Refused>
-        ensures { (result, ledger.new.table) ≡ try_unsplit_call ledger.old.table self.now other }
+    ) -> Result<Result<(), BytesMut>, Refused>
+        ensures { (result, ledger.new.table.rows) ≡ try_unsplit_call ledger.old.table.rows self.now other }
     {
-        match known_both(&ledger.table, self, &other) {
+        match known_both(&ledger.table.rows, self, &other) {
+            Ok((first, second)) => {
+                if unsplit::try_unsplit(&mut ledger.table.rows, first, second) {
+                    other.spent = true;
+                    Ok(Ok(()))
+                } else {
+                    Ok(Err(other))
+                }
+            }
             Err(fault) => Err(Refused {
                 fault,
                 token: other,
             }),
-            Ok((first, second)) => {
-                if unsplit::try_unsplit(&mut ledger.table, self.row, first, other.row, second) {
-                    other.spent = true;
-                    Ok(TryUnsplit::Joined)
-                } else {
-                    Ok(TryUnsplit::Declined(other))
-                }
-            }
         }
     }
 
@@ -278,48 +266,36 @@ impl BytesMut {
         growth: &G,
         mut other: BytesMut,
     ) -> Result<u32, Refused>
-        ensures does { (result, ledger.new.table, M.bytes mem.new) ≡ unsplit_call ledger.old.table (M.bytes mem.old) (M.fault mem.old) (G.Growth.answer growth.now) self.now other }
+        ensures does { (result, ledger.new.table.rows, M.bytes mem.new) ≡ unsplit_call ledger.old.table.rows (M.bytes mem.old) (M.fault mem.old) (G.Growth.answer growth.now) self.now other }
         ensures faults { M.fault mem.new ≡ M.fault mem.old }
     {
-        match known_both(&ledger.table, self, &other) {
+        let joined = match known_both(&ledger.table.rows, self, &other) {
+            Ok((first, second)) => unsplit::unsplit(&mut ledger.table, mem, growth, first, second),
+            Err(fault) => Err(fault),
+        };
+        match joined {
+            Ok(slid) => {
+                other.spent = true;
+                Ok(slid)
+            }
             Err(fault) => Err(Refused {
                 fault,
                 token: other,
             }),
-            Ok((first, second)) => {
-                match unsplit::unsplit(
-                    &mut ledger.table,
-                    mem,
-                    growth,
-                    self.row,
-                    first,
-                    other.row,
-                    second,
-                ) {
-                    Err(fault) => Err(Refused {
-                        fault,
-                        token: other,
-                    }),
-                    Ok(slid) => {
-                        other.spent = true;
-                        Ok(slid)
-                    }
-                }
-            }
         }
     }
 
     // Ends the handle and spends the token, or gives the token back. Refusals 2, 3.
     pub fn release(mut self, ledger: &mut Ledger) -> Result<(), Refused>
-        ensures { (result, ledger.new.table) ≡ release_call ledger.old.table self }
+        ensures { (result, ledger.new.table.rows) ≡ release_call ledger.old.table.rows self }
     {
-        match known(&ledger.table, &self) {
-            Err(fault) => Err(Refused { fault, token: self }),
-            Ok(_) => {
-                ledger.table.detach(self.row);
+        match known(&ledger.table.rows, &self) {
+            Ok(held) => {
+                ledger.table.rows.detach(held.row);
                 self.spent = true;
                 Ok(())
             }
+            Err(fault) => Err(Refused { fault, token: self }),
         }
     }
 }

@@ -7,6 +7,6 @@ use Rattle.ledger.proofs.bytes_mut.BytesMut.from.Goals as goal
 
 pub invariant_of-ledger : goal.invariant_of-ledger
 invariant_of-ledger g c =
-    let t = c.args.ledger.now.table in
+    let t = c.args.ledger.now.table.rows in
     let opened = opened_from t _ _ c.in_ok-check_open.ensures in
-    record { sound = sound_after t _ _ (sound_opens t c.args.ledger.now.sound) (ap (λ r. r.1) c.from.ensures.does) (λ s. from_sound t (g.M.Memory.bytes c.args.mem.now) (g.M.Memory.fault c.args.mem.now) c.args.source.now s opened) }
+    record { sound = sound_after t _ _ (sound_opens t c.args.ledger.now.table.sound) (ap (λ r. r.1) c.from.ensures.does) (λ s. from_sound t (g.M.Memory.bytes c.args.mem.now) (g.M.Memory.fault c.args.mem.now) c.args.source.now s opened) }
