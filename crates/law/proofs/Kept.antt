@@ -1,6 +1,5 @@
 -- What every turn of a run keeps.
 --   shown_by m h         what a handle row shows of the memory: no list for a free row
---   offset-of t h        how far a handle starts behind the place of its block
 --   Kept ..              of the memory as found, the table, the bytes, the book, the slides and the distances so far, and
 --                        a mark for each block row: no handle of the block starts further than that behind its place
 use Rattle.std.proofs.Common.{◌≡◌, ℕ, ◌+◌, ◌≤◌, true, false, List, length, get_or, take, Some, None, sum, Option}

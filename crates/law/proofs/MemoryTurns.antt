@@ -1,5 +1,5 @@
 -- What the calls keep that write into the memory: from, reserve, try_reclaim and extend.
-use Rattle.std.proofs.Common.{◌≡◌, ℕ, ◌+◌, ◌<◌, ◌≤◌, List, length, set, Ok, Err, Result, sym, refl, ap, subst, arith}
+use Rattle.std.proofs.Common.{◌≡◌, ℕ, ◌+◌, ◌<◌, ◌≤◌, List, length, set, Some, None, Option, Ok, Err, Result, sym, refl, ap, subst, arith}
 use Rattle.memory.specs.declared.fault.MemoryFault.{MemoryFault}
 use Rattle.table.proofs.SoundSteps.{live_row}
 use Rattle.table.specs.Checks.{memory_check, no_row, open_check, or_refuse_with}
@@ -15,8 +15,6 @@ use Rattle.reserve.proofs.HandleFacts.{handled}
 use Rattle.table.proofs.Passing.{both_after, memory_reaches}
 use Rattle.writable.specs.Calls.{extended, filled, slid_of, told}
 use Rattle.reserve.specs.Rooms.{reclaim_of, room_of}
-use Rattle.reserve.specs.declared.room.Reclaim.{Reclaim}
-use Rattle.reserve.specs.declared.room.Reclaim.TheVariants.{Yes, No}
 use Rattle.reserve.specs.declared.room.Room.{Room}
 use Rattle.ledger.specs.BytesMut.{tokened, writable_check}
 use Rattle.ledger.specs.declared.bytes_mut.BytesMut.{BytesMut}
@@ -89,9 +87,9 @@ module _ (f : ℕ → MemoryFault) (r : Run) {marks : List ℕ} (kept : RunKept 
       known_kept (calls.try_reclaim k a) k calls.reclaimed (λ _. refl) (λ h. told (reclaim h))
       (λ h is reaches s. answered (reclaim h) (reclaim_kept kept k.row h is reaches a s))
     where
-      answered : (o : Reclaim × Table × List ℕ) → ReclaimKept r.found r.book r.slid r.distances o → TurnKept r (calls.try_reclaim k a) (on_both calls.reclaimed (told o))
-      answered (Yes n, t, m) after = (after.0, retotalled after.1 (r.slid + n) (r.distances + 0) (omega (arith, after.1.paid)))
-      answered (No, t, m) after = (after.0, retotalled after.1 (r.slid + 0) (r.distances + 0) (omega (arith, after.1.paid)))
+      answered : (o : Option ℕ × Table × List ℕ) → ReclaimKept r.found r.book r.slid r.distances o → TurnKept r (calls.try_reclaim k a) (on_both calls.reclaimed (told o))
+      answered (Some n, t, m) after = (after.0, retotalled after.1 (r.slid + n) (r.distances + 0) (omega (arith, after.1.paid)))
+      answered (None, t, m) after = (after.0, retotalled after.1 (r.slid + 0) (r.distances + 0) (omega (arith, after.1.paid)))
 
   pub extend_turn : (k : BytesMut) (g : Rule) (xs : List ℕ) → Sound (turn f r.state (calls.extend k g xs)).1.table → TurnKept r (calls.extend k g xs) (turn f r.state (calls.extend k g xs))
   extend_turn k g xs =

@@ -1,5 +1,5 @@
 -- What is kept where room is made behind the bytes of a handle.
-use Rattle.std.proofs.Common.{◌≡◌, ℕ, ◌+◌, ◌-◌, ◌*◌, ◌<◌, ◌≤◌, max, true, cond, leb, List, length, set, Ok, Err, Result, sym, refl, ap, ◌∙◌, subst, arith}
+use Rattle.std.proofs.Common.{◌≡◌, ℕ, ◌+◌, ◌-◌, ◌*◌, ◌<◌, ◌≤◌, max, true, cond, leb, List, length, set, Option, Ok, Err, Result, sym, refl, ap, ◌∙◌, subst, arith}
 use Rattle.std.proofs.lemmas.List.{get_or-set_same, length-set, set-get_or, set-set}
 use Rattle.std.proofs.lemmas.Bool.{cond_both, leb-false, leb-true}
 use Rattle.table.proofs.Passing.{block_row_passed, both_after}
@@ -22,7 +22,6 @@ use Rattle.reserve.proofs.HandleFacts.{Enough, Handled, handled, rule_enough}
 use Rattle.writable.specs.Calls.{longer}
 use Rattle.reserve.specs.Rooms.{carried, grown_block, grown_handle, moved_out, moved_to, need_check, new_block, reclaim_of, reclaimed, room_of}
 use Rattle.reserve.specs.Rules.{may_slide, need, rule_by, rule_of, wanted}
-use Rattle.reserve.specs.declared.room.Reclaim.{Reclaim}
 use Rattle.reserve.specs.declared.room.Room.{Room}
 use Rattle.reserve.specs.declared.rules.ReserveRule.{ReserveRule}
 use Rattle.reserve.specs.declared.rules.ReserveRule.TheVariants.{Keep, Slide, Grow, Widen, MoveOut}
@@ -73,7 +72,7 @@ abbrev pub RoomKept : List ℕ → Book → ℕ → ℕ → ℕ → Result Room 
 RoomKept found k slid distances i (Ok x, t, m) = RoomMade found k slid distances i x t m
 RoomKept found k slid distances i (Err e, t, m) = (marks : List ℕ) × Kept found t m k marks slid distances
 
-abbrev pub ReclaimKept : List ℕ → Book → ℕ → ℕ → Reclaim × Table × List ℕ → Type 0
+abbrev pub ReclaimKept : List ℕ → Book → ℕ → ℕ → Option ℕ × Table × List ℕ → Type 0
 ReclaimKept found k slid distances o = (marks : List ℕ) × Kept found o.1 o.2 k marks (slid + slid_by (calls.reclaimed (Ok o.0))) distances
 
 module _ {found : List ℕ} {t : Table} {m : List ℕ} {k : Book} {marks : List ℕ} {slid distances : ℕ} (kept : Kept found t m k marks slid distances) (i : ℕ) (h : WritableHandle) (is : handle_at t i ≡ row.Writable h) (reaches : t.limit ≤ length m) where
