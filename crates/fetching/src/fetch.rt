@@ -19,8 +19,8 @@ pub fn read_shown<M: Memory>(
     mem: &M,
     token: &BytesMut,
 ) -> Result<Vec<u8>, Stopped>
-    ensures answer { IfOk result (λ shown. shown.items ≡ view ledger.now.table (M.bytes mem.now) token.now) }
-    ensures reaches { OnOk result (ledger.now.table.limit ≤ length (M.bytes mem.now)) }
+    ensures answer { IfOk result (λ shown. shown.items ≡ view ledger.now.table.rows (M.bytes mem.now) token.now) }
+    ensures reaches { OnOk result (ledger.now.table.rows.limit ≤ length (M.bytes mem.now)) }
 {
     let count = token.len(ledger)?;
     let mut shown = vec![in heap; 0; count as usize]?;
@@ -48,8 +48,8 @@ pub fn next_line<M: Memory>(
     mem: &M,
     token: &BytesMut,
 ) -> Result<Option<Vec<u8>>, Stopped>
-    ensures fetched { IfOk result (λ line. Fetched (view ledger.old.table (M.bytes mem.now) token.now) line (view ledger.new.table (M.bytes mem.now) token.now)) }
-    ensures known { Knows ledger.old.table token.now → Knows ledger.new.table token.now }
+    ensures fetched { IfOk result (λ line. Fetched (view ledger.old.table.rows (M.bytes mem.now) token.now) line (view ledger.new.table.rows (M.bytes mem.now) token.now)) }
+    ensures known { Knows ledger.old.table.rows token.now → Knows ledger.new.table.rows token.now }
 {
     let mut shown = read_shown(heap, ledger, mem, token)?;
     match find_end(shown.as_slice()) {

@@ -35,9 +35,9 @@ fn pass_lines<M: Memory, I: Memory>(
     open_items: &I,
     progress: &mut Progress,
 ) -> Result<(), Stopped>
-    ensures fetched { OnOk result (NoEnd (view ledger.new.table (M.Memory.bytes mem.now) token.now)) }
-    ensures passed { OnOk result (Carries (I.Memory.bytes open_items.now) progress.old (view ledger.old.table (M.Memory.bytes mem.now) token.now) progress.new (view ledger.new.table (M.Memory.bytes mem.now) token.now)) }
-    ensures known { Knows ledger.old.table token.now → Knows ledger.new.table token.now }
+    ensures fetched { OnOk result (NoEnd (view ledger.new.table.rows (M.Memory.bytes mem.now) token.now)) }
+    ensures passed { OnOk result (Carries (I.Memory.bytes open_items.now) progress.old (view ledger.old.table.rows (M.Memory.bytes mem.now) token.now) progress.new (view ledger.new.table.rows (M.Memory.bytes mem.now) token.now)) }
+    ensures known { Knows ledger.old.table.rows token.now → Knows ledger.new.table.rows token.now }
 {
     while let Some(text) = next_line(heap, ledger, mem, token)? {
         progress.pass(open_items, text.as_slice())?;
@@ -58,10 +58,10 @@ pub fn reconcile<M: Memory, G: Growth, I: Memory>(
     source: &[u8],
     open_items: &I,
 ) -> Result<Reconciliation, Stopped>
-    ensures entries { IfOk result (λ done. done.report.entries.items ≡ entries_of (view ledger.old.table (M.Memory.bytes mem.old) token.now ++ source.now) (I.Memory.bytes open_items.now)) }
-    ensures invoices { IfOk result (λ done. done.report.invoices.items ≡ settled_invoices (view ledger.old.table (M.Memory.bytes mem.old) token.now ++ source.now) (I.Memory.bytes open_items.now)) }
-    ensures law { IfOk result (λ done. Reconciled (view ledger.old.table (M.Memory.bytes mem.old) token.now ++ source.now) (I.Memory.bytes open_items.now) done.report.entries.items done.report.invoices.items) }
-    ensures known { Knows ledger.old.table token.now → Knows ledger.new.table token.now }
+    ensures entries { IfOk result (λ done. done.report.entries.items ≡ entries_of (view ledger.old.table.rows (M.Memory.bytes mem.old) token.now ++ source.now) (I.Memory.bytes open_items.now)) }
+    ensures invoices { IfOk result (λ done. done.report.invoices.items ≡ settled_invoices (view ledger.old.table.rows (M.Memory.bytes mem.old) token.now ++ source.now) (I.Memory.bytes open_items.now)) }
+    ensures law { IfOk result (λ done. Reconciled (view ledger.old.table.rows (M.Memory.bytes mem.old) token.now ++ source.now) (I.Memory.bytes open_items.now) done.report.entries.items done.report.invoices.items) }
+    ensures known { Knows ledger.old.table.rows token.now → Knows ledger.new.table.rows token.now }
 {
     let mut progress = Progress::new(heap, open_items)?;
     let mut slid: u64 = 0;

@@ -46,7 +46,7 @@ fn zeros(rt: &HostRuntime) -> anyhow::Result<Vec<u8>> {
 
 // A handle that shows nothing, of a ledger that is opened for it.
 fn open_handle(ledger: &mut Ledger) -> Result<BytesMut, Stopped>
-    ensures { IfOk result (λ token. Knows ledger.new.table token) }
+    ensures { IfOk result (λ token. Knows ledger.new.table.rows token) }
 {
     ledger.open(1, 0, ARENA as u64)?;
     Ok(BytesMut::with_capacity(ledger, CAPACITY)?)
@@ -65,7 +65,7 @@ fn report<M: Memory>(
     statement: &[u8],
     invoices: &mut [u8],
 ) -> anyhow::Result<()>
-    ensures { Knows ledger.old.table token.now → Knows ledger.new.table token.now }
+    ensures { Knows ledger.old.table.rows token.now → Knows ledger.new.table.rows token.now }
 {
     let growth = Doubling::default();
     let open_items = SliceMemory::new(invoices);

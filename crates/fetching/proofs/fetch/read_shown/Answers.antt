@@ -6,11 +6,11 @@ use Rattle.fetching.proofs.fetch.read_shown.Goals as goal
 
 pub returns : goal.returns
 returns g c =
-    let t = c.args.ledger.now.table in
+    let t = c.args.ledger.now.table.rows in
     let m = g.M.Memory.bytes c.args.mem.now in
     let f = g.M.Memory.fault c.args.mem.now in
     let k = c.args.token.now in
-    let s = sound_opens t c.args.ledger.now.sound in
+    let s = sound_opens t c.args.ledger.now.table.sound in
     let told = c.in_ok-count.ensures in
     let n = c.in_ok-count.count in
     let out = c.as_mut_slice.result.now in

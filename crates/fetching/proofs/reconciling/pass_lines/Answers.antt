@@ -13,8 +13,8 @@ pub loop-text-smaller : goal.loop-text-smaller
 loop-text-smaller g c =
     let m = g.M.Memory.bytes c.args.mem.now in
     let k = c.args.token.now in
-    let v = view c.loop-text.ledger.table m k in
-    let v' = view c.next_line.new.ledger.table m k in
+    let v = view c.loop-text.ledger.table.rows m k in
+    let v' = view c.next_line.new.ledger.table.rows m k in
     let text = vec_items c.in-Some.text in
     let cut = line_fetched v v' c.in-Some.text c.in-Some.is c.in_ok-text.ensures.fetched in
     omega (arith, ap length cut.rejoined, length-append text (line_end ∷ v'))
@@ -23,9 +23,9 @@ pub loop-text-preserved : goal.loop-text-preserved
 loop-text-preserved g c =
     let m = g.M.Memory.bytes c.args.mem.now in
     let k = c.args.token.now in
-    let u = view c.args.ledger.now.table m k in
-    let v = view c.loop-text.ledger.table m k in
-    let v' = view c.next_line.new.ledger.table m k in
+    let u = view c.args.ledger.now.table.rows m k in
+    let v = view c.loop-text.ledger.table.rows m k in
+    let v' = view c.next_line.new.ledger.table.rows m k in
     let text = vec_items c.in-Some.text in
     let cut = line_fetched v v' c.in-Some.text c.in-Some.is c.in_ok-text.ensures.fetched in
     let on = carried_on (g.I.Memory.bytes c.args.open_items.now) c.args.progress.now c.loop-text.progress c.pass.new.self u v text c.as_slice.result.now v' c.loop-text.invariant.passed cut c.as_slice.ensures.value c.in_ok-pass.ensures in
@@ -35,9 +35,9 @@ pub returns : goal.returns
 returns g c =
     let m = g.M.Memory.bytes c.args.mem.now in
     let k = c.args.token.now in
-    let u = view c.args.ledger.now.table m k in
-    let v = view c.loop-text.ledger.table m k in
-    let v' = view c.next_line.new.ledger.table m k in
+    let u = view c.args.ledger.now.table.rows m k in
+    let v = view c.loop-text.ledger.table.rows m k in
+    let v' = view c.next_line.new.ledger.table.rows m k in
     let none = none_fetched v v' c.in_default.is c.in_ok-text.ensures.fetched in
     record {
       fetched = subst NoEnd (sym none.1) none.0;

@@ -8,9 +8,9 @@ abbrev pub invariant-loop-text : goal.invariant-loop-text
 invariant-loop-text g l =
     let m = g.M.Memory.bytes l.mem in
     record {
-      passed : Carries (g.I.Memory.bytes l.open_items) l.initial.progress (view l.initial.ledger.table m l.token) l.progress (view l.ledger.table m l.token);
-      known : Knows l.initial.ledger.table l.token → Knows l.ledger.table l.token;
+      passed : Carries (g.I.Memory.bytes l.open_items) l.initial.progress (view l.initial.ledger.table.rows m l.token) l.progress (view l.ledger.table.rows m l.token);
+      known : Knows l.initial.ledger.table.rows l.token → Knows l.ledger.table.rows l.token;
     }
 
 abbrev pub decreases-loop-text : goal.decreases-loop-text
-decreases-loop-text g l = length (view l.ledger.table (g.M.Memory.bytes l.mem) l.token)
+decreases-loop-text g l = length (view l.ledger.table.rows (g.M.Memory.bytes l.mem) l.token)

@@ -14,7 +14,7 @@ pub loop-chunk-init : goal.loop-chunk-init
 loop-chunk-init g c =
     let ys = g.I.Memory.bytes c.args.open_items.now in
     let p = c.pass_lines.new.progress in
-    let v = view c.pass_lines.new.ledger.table (g.M.Memory.bytes c.args.mem.now) c.args.token.now in
+    let v = view c.pass_lines.new.ledger.table.rows (g.M.Memory.bytes c.args.mem.now) c.args.token.now in
     let all = ap chunks_rest c.into_iter-chunk-iterator.ensures.into_iter_gives ∙ c.chunks-chunk-items.ensures.rest in
     (c.in_ok-pass_lines.ensures.fetched, λ xs. subst (λ (rest : List ℕ). Underway xs ys p (v ++ rest)) (sym all), c.in_ok-pass_lines.ensures.known)
 
@@ -22,17 +22,17 @@ pub loop-chunk-preserved : goal.loop-chunk-preserved
 loop-chunk-preserved g c =
     let ys = g.I.Memory.bytes c.args.open_items.now in
     let k = c.args.token.now in
-    let t = c.loop-chunk.ledger.table in
+    let t = c.loop-chunk.ledger.table.rows in
     let m = g.M.Memory.bytes c.loop-chunk.mem in
     let f = g.M.Memory.fault c.loop-chunk.mem in
-    let t' = c.extend_from_slice.new.ledger.table in
+    let t' = c.extend_from_slice.new.ledger.table.rows in
     let m' = g.M.Memory.bytes c.extend_from_slice.new.mem in
     let grown = g.G.Growth.answer c.args.growth.now in
     let chunk = c.in-Some.chunk.now in
-    let s = sound_opens t c.loop-chunk.ledger.sound in
+    let s = sound_opens t c.loop-chunk.ledger.table.sound in
     let extended = extended_view t m f k s grown (g.met.G.Growth.enough c.args.growth.now) chunk c.in_ok-moved.moved t' m' c.in_ok-moved.ensures.does in
     let grown_known = known_extended t t' s m m' f grown k chunk c.extend_from_slice.result c.extend_from_slice.ensures.does in
-    let w = view c.pass_lines-in-loop-chunk.new.ledger.table m' k in
+    let w = view c.pass_lines-in-loop-chunk.new.ledger.table.rows m' k in
     let cut = c.in-Some.ensures.steps.1.0 in
     let passed = c.in_ok-pass_lines-2.ensures in
     (passed.fetched, λ xs under. chunk_carried xs ys c.loop-chunk.progress c.pass_lines-in-loop-chunk.new.progress (view t m k) w (view t' m' k) chunk (chunks_rest c.loop-chunk.chunk-iterator) (chunks_rest c.next.new.self) cut extended passed.passed (c.loop-chunk.invariant.1 xs under), λ knows. passed.known (grown_known (c.loop-chunk.invariant.2 knows)))
@@ -42,8 +42,8 @@ returns g c =
     let ys = g.I.Memory.bytes c.args.open_items.now in
     let k = c.args.token.now in
     let source = c.args.source.now in
-    let xs = view c.args.ledger.now.table (g.M.Memory.bytes c.args.mem.now) k ++ source in
-    let v = view c.loop-chunk.ledger.table (g.M.Memory.bytes c.loop-chunk.mem) k in
+    let xs = view c.args.ledger.now.table.rows (g.M.Memory.bytes c.args.mem.now) k ++ source in
+    let v = view c.loop-chunk.ledger.table.rows (g.M.Memory.bytes c.loop-chunk.mem) k in
     let left = c.as_slice.result.now in
     let shown = c.as_slice.ensures.value ∙ c.in_ok-left.ensures.answer in
     let begun = c.in_ok-progress.ensures xs in
@@ -55,12 +55,12 @@ returns g c =
 
 pub returns-in_err-moved-clause-known : goal.returns-in_err-moved-clause-known
 returns-in_err-moved-clause-known g c =
-    let t = c.loop-chunk.ledger.table in
-    let s = sound_opens t c.loop-chunk.ledger.sound in
-    λ knows. known_extended t c.extend_from_slice.new.ledger.table s (g.M.Memory.bytes c.loop-chunk.mem) (g.M.Memory.bytes c.extend_from_slice.new.mem) (g.M.Memory.fault c.loop-chunk.mem) (g.G.Growth.answer c.args.growth.now) c.args.token.now c.in-Some.chunk.now c.extend_from_slice.result c.extend_from_slice.ensures.does (c.loop-chunk.invariant.2 knows)
+    let t = c.loop-chunk.ledger.table.rows in
+    let s = sound_opens t c.loop-chunk.ledger.table.sound in
+    λ knows. known_extended t c.extend_from_slice.new.ledger.table.rows s (g.M.Memory.bytes c.loop-chunk.mem) (g.M.Memory.bytes c.extend_from_slice.new.mem) (g.M.Memory.fault c.loop-chunk.mem) (g.G.Growth.answer c.args.growth.now) c.args.token.now c.in-Some.chunk.now c.extend_from_slice.result c.extend_from_slice.ensures.does (c.loop-chunk.invariant.2 knows)
 
 pub returns-in_err-pass_lines-2-clause-known : goal.returns-in_err-pass_lines-2-clause-known
 returns-in_err-pass_lines-2-clause-known g c =
-    let t = c.loop-chunk.ledger.table in
-    let s = sound_opens t c.loop-chunk.ledger.sound in
-    λ knows. c.in_err-pass_lines-2.ensures.known (known_extended t c.extend_from_slice.new.ledger.table s (g.M.Memory.bytes c.loop-chunk.mem) (g.M.Memory.bytes c.extend_from_slice.new.mem) (g.M.Memory.fault c.loop-chunk.mem) (g.G.Growth.answer c.args.growth.now) c.args.token.now c.in-Some.chunk.now c.extend_from_slice.result c.extend_from_slice.ensures.does (c.loop-chunk.invariant.2 knows))
+    let t = c.loop-chunk.ledger.table.rows in
+    let s = sound_opens t c.loop-chunk.ledger.table.sound in
+    λ knows. c.in_err-pass_lines-2.ensures.known (known_extended t c.extend_from_slice.new.ledger.table.rows s (g.M.Memory.bytes c.loop-chunk.mem) (g.M.Memory.bytes c.extend_from_slice.new.mem) (g.M.Memory.fault c.loop-chunk.mem) (g.G.Growth.answer c.args.growth.now) c.args.token.now c.in-Some.chunk.now c.extend_from_slice.result c.extend_from_slice.ensures.does (c.loop-chunk.invariant.2 knows))

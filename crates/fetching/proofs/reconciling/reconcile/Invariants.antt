@@ -10,8 +10,8 @@ use Rattle.fetching.proofs.reconciling.reconcile.Given as goal
 abbrev pub invariant-loop-chunk : goal.invariant-loop-chunk
 invariant-loop-chunk g l =
     let ys = g.I.Memory.bytes l.open_items in
-    let shown = view l.ledger.table (g.M.Memory.bytes l.mem) l.token in
-    let first = view l.initial.ledger.table (g.M.Memory.bytes l.initial.mem) l.token in
+    let shown = view l.ledger.table.rows (g.M.Memory.bytes l.mem) l.token in
+    let first = view l.initial.ledger.table.rows (g.M.Memory.bytes l.initial.mem) l.token in
     NoEnd shown
     × ((xs : List ℕ) → Underway xs ys l.initial.progress (first ++ l.source) → Underway xs ys l.progress (shown ++ chunks_rest l.chunk-iterator))
-    × (Knows l.fn.ledger.table l.token → Knows l.ledger.table l.token)
+    × (Knows l.fn.ledger.table.rows l.token → Knows l.ledger.table.rows l.token)
