@@ -9,7 +9,7 @@ abbrev pub own_fault : ℕ → ℕ → MemoryFault
 own_fault size p = record { position = p; size = size; layers = 0 }
 
 abbrev pub raised : MemoryFault → MemoryFault
-raised f = record { position = f.position; size = f.size; layers = min (f.layers + 1) 255 }
+raised f = record f { layers = min (f.layers + 1) 255 }
 
 abbrev pub fault_text : MemoryFault → List ℕ
 fault_text f = codes "no position " ++ decimal f.position ++ codes " in " ++ decimal f.size ++ codes " bytes (layers: " ++ decimal f.layers ++ codes ")"
