@@ -13,7 +13,7 @@ pub fn store<M: Memory>(mem: &mut M, position: u32, byte: u8)
     ensures memory { M.bytes mem.new ≡ slice_set (M.bytes mem.old) position byte }
     ensures faults { M.fault mem.new ≡ M.fault mem.old }
 {
-    let _ = mem.put(position, byte);
+    mem.put(position, byte).unwrap();
 }
 
 // Writes the slice from a position on.

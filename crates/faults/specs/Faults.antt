@@ -1,7 +1,8 @@
 -- What a fault tells.
 --   number_of f   the number of the refusal
 --   row_of f      the row that it names
-use Rattle.std.specs.Prelude.{ℕ}
+--   fault_text f  how it is printed
+use Rattle.std.specs.Prelude.{ℕ, List, ◌++◌, codes, decimal}
 use Rattle.faults.specs.declared.Fault.{Fault}
 use Rattle.faults.specs.declared.Fault.TheVariants.{Opening, Shut, UnknownToken, SameRow, Memory, OutOfRange, NoHandleRow, NoBlockRow, NoPlace}
 
@@ -26,3 +27,6 @@ row_of (OutOfRange row) = row
 row_of (NoHandleRow row) = row
 row_of (NoBlockRow row) = row
 row_of (NoPlace row size) = row
+
+abbrev pub fault_text : Fault → List ℕ
+fault_text f = codes "refused with " ++ decimal (number_of f) ++ codes ", row " ++ decimal (row_of f)

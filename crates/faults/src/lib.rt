@@ -1,9 +1,11 @@
 #![tactic(auto)]
 
-ghost use Rattle.faults.specs.Faults.{number_of, row_of};
-ghost use Rattle.std.specs.Prelude.{◌≡◌};
+ghost use Rattle.faults.specs.Faults.{fault_text, number_of, row_of};
+ghost use Rattle.std.specs.Prelude.{◌≡◌, Some};
 
 use memory::fault::MemoryFault;
+use std::error::Error;
+use std::fmt;
 
 // Why a call was refused, with a row: that of the first token, or of the first unknown one; 64 without a token.
 #[derive(Clone, Copy, PartialEq, Eq, Debug)]
@@ -32,31 +34,42 @@ impl Fault {
         ensures { result ≡ number_of self }
     {
         match self {
-            Fault::Opening { row: _ } => 1,
-            Fault::Shut { row: _ } => 2,
-            Fault::UnknownToken { row: _ } => 3,
-            Fault::SameRow { row: _ } => 4,
-            Fault::Memory { row: _, fault: _ } => 5,
-            Fault::OutOfRange { row: _ } => 6,
-            Fault::NoHandleRow { row: _ } => 7,
-            Fault::NoBlockRow { row: _ } => 8,
-            Fault::NoPlace { row: _, size: _ } => 9,
+            Fault::Opening { .. } => 1,
+            Fault::Shut { .. } => 2,
+            Fault::UnknownToken { .. } => 3,
+            Fault::SameRow { .. } => 4,
+            Fault::Memory { .. } => 5,
+            Fault::OutOfRange { .. } => 6,
+            Fault::NoHandleRow { .. } => 7,
+            Fault::NoBlockRow { .. } => 8,
+            Fault::NoPlace { .. } => 9,
         }
     }
 
+    // The row that it names.
     pub fn row(self) -> u8
         ensures { result ≡ row_of self }
     {
         match self {
-            Fault::Opening { row } => row,
-            Fault::Shut { row } => row,
-            Fault::UnknownToken { row } => row,
-            Fault::SameRow { row } => row,
-            Fault::Memory { row, fault: _ } => row,
-            Fault::OutOfRange { row } => row,
-            Fault::NoHandleRow { row } => row,
-            Fault::NoBlockRow { row } => row,
-            Fault::NoPlace { row, size: _ } => row,
+            Fault::Opening { row }
+            | Fault::Shut { row }
+            | Fault::UnknownToken { row }
+            | Fault::SameRow { row }
+            | Fault::Memory { row, .. }
+            | Fault::OutOfRange { row }
+            | Fault::NoHandleRow { row }
+            | Fault::NoBlockRow { row }
+            | Fault::NoPlace { row, .. } => row,
         }
     }
 }
+
+impl fmt::Display for Fault {
+    ghost output = { λ fault. Some (fault_text fault) };
+
+    fn fmt<W: fmt::Write>(&self, f: &mut fmt::Formatter<W>) -> fmt::Result {
+        write!(f, "refused with {}, row {}", self.number(), self.row())
+    }
+}
+
+impl Error for Fault {}

@@ -22,8 +22,8 @@ module _ (a n : ℕ) (xs : List ℕ) where
     fault_raised h = rw (lt-ltb p n h)
 
   module _ (p : ℕ) where
-    get_d_window : p < n → get_or xs (a + p) 0 ≡ get_or (window_bytes a n xs) p 0
-    get_d_window h = sym (get_or-take n (drop a xs) p 0 h ∙ get_or-drop a xs p 0)
+    get_or_window : p < n → get_or xs (a + p) 0 ≡ get_or (window_bytes a n xs) p 0
+    get_or_window h = sym (get_or-take n (drop a xs) p 0 h ∙ get_or-drop a xs p 0)
 
     -- the position below stops at the last one, which no memory has
     reached : length xs < 2 ^ 32 → min (a + p) most < length xs → min (a + p) most ≡ a + p
@@ -88,7 +88,7 @@ module _ (a n : ℕ) (xs : List ℕ) where
       inside : s < length xs → (p < length (window_bytes a n xs)) × (get_or xs s 0 ≡ get_or (window_bytes a n xs) p 0)
       inside h =
           let l = lowered_to s lower in
-          (omega (arith, length_window), ap (λ i. get_or xs i 0) (omega arith) ∙ get_d_window p l.0)
+          (omega (arith, length_window), ap (λ i. get_or xs i 0) (omega arith) ∙ get_or_window p l.0)
 
       past : length xs ≤ s → (length (window_bytes a n xs) ≤ p) × (raised (f s) ≡ window_fault a n xs f p)
       past h =

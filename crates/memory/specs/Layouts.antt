@@ -5,7 +5,7 @@
 --   window_fault a n xs f p   the window's own fault from n on; under n that of the memory below, raised
 --   lowered_answer a n xs p   the position below that the window's p becomes, or the window's own fault
 --   put_below a n xs p b      the memory below after b was put at the window's position p
-use Rattle.std.specs.Prelude.{ℕ, ◌+◌, min, cond, List, length, take, drop, Ok, Err, Result, nat_lt, slice_set}
+use Rattle.std.specs.Prelude.{ℕ, ◌+◌, min, if◌then◌else◌, List, length, take, drop, Ok, Err, Result, nat_lt, slice_set}
 use Rattle.memory.specs.Faults.{own_fault, raised}
 use Rattle.memory.specs.declared.fault.MemoryFault.{MemoryFault}
 
@@ -19,10 +19,10 @@ abbrev pub window_bytes : ℕ → ℕ → List ℕ → List ℕ
 window_bytes a n xs = take n (drop a xs)
 
 abbrev pub window_fault : ℕ → ℕ → List ℕ → (ℕ → MemoryFault) → ℕ → MemoryFault
-window_fault a n xs f p = cond (nat_lt p n) (raised (f (min (a + p) most))) (own_fault (length (window_bytes a n xs)) p)
+window_fault a n xs f p = if nat_lt p n then raised (f (min (a + p) most)) else own_fault (length (window_bytes a n xs)) p
 
 abbrev pub put_below : ℕ → ℕ → List ℕ → ℕ → ℕ → List ℕ
-put_below a n xs p b = cond (nat_lt p n) (slice_set xs (min (a + p) most) b) xs
+put_below a n xs p b = if nat_lt p n then slice_set xs (min (a + p) most) b else xs
 
 abbrev pub lowered_answer : ℕ → ℕ → List ℕ → ℕ → Result ℕ MemoryFault
-lowered_answer a n xs p = cond (nat_lt p n) (Ok (min (a + p) most)) (Err (own_fault (length (window_bytes a n xs)) p))
+lowered_answer a n xs p = if nat_lt p n then Ok (min (a + p) most) else Err (own_fault (length (window_bytes a n xs)) p)

@@ -7,8 +7,5 @@ pub fn byte_at<M: Memory>(mem: &M, position: u32) -> u8
     requires { position < length (M.bytes mem.now) }
     ensures { result ≡ slice_index (M.bytes mem.now) position }
 {
-    match mem.read(position) {
-        Ok(byte) => byte,
-        Err(_) => unreachable(),
-    }
+    mem.read(position).unwrap()
 }

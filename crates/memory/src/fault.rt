@@ -1,5 +1,8 @@
-ghost use Rattle.memory.specs.Faults.{own_fault, raised};
-ghost use Rattle.std.specs.Prelude.{◌≡◌};
+ghost use Rattle.memory.specs.Faults.{fault_text, own_fault, raised};
+ghost use Rattle.std.specs.Prelude.{◌≡◌, Some};
+
+use std::error::Error;
+use std::fmt;
 
 // Why a memory refused a position.
 #[derive(Clone, Copy, PartialEq, Eq, Debug)]
@@ -29,9 +32,26 @@ impl MemoryFault {
         ensures { result ≡ raised self }
     {
         MemoryFault {
-            position: self.position,
-            size: self.size,
             layers: self.layers.saturating_add(1),
+            ..self
         }
     }
 }
+
+impl fmt::Display for MemoryFault {
+    ghost output = { λ fault. Some (fault_text fault) };
+
+    fn fmt<W: fmt::Write>(&self, f: &mut fmt::Formatter<W>) -> fmt::Result {
+        let MemoryFault {
+            position,
+            size,
+            layers,
+        } = self;
+        write!(
+            f,
+            "no position {position} in {size} bytes (layers: {layers})"
+        )
+    }
+}
+
+impl Error for MemoryFault {}

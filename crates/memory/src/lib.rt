@@ -1,6 +1,7 @@
 #![tactic(auto)]
 
 pub mod access;
+mod cells;
 pub mod fault;
 pub mod interface;
 pub mod own;

@@ -2,6 +2,7 @@ ghost use Rattle.memory.specs.Faults.{own_fault};
 ghost use Rattle.memory.specs.Bounds.{own_short};
 ghost use Rattle.std.specs.Prelude.{◌≡◌, length, replicate};
 
+use crate::cells::{put_cell, read_cell};
 use crate::fault::MemoryFault;
 use crate::interface::Memory;
 
@@ -32,21 +33,10 @@ impl Memory for OwnMemory {
     }
 
     fn read(&self, position: u32) -> Result<u8, MemoryFault> {
-        let size = self.size();
-        if position < size {
-            Ok(self.cells[position as usize])
-        } else {
-            Err(MemoryFault::own(position, size))
-        }
+        read_cell(&self.cells, position)
     }
 
     fn put(&mut self, position: u32, byte: u8) -> Result<(), MemoryFault> {
-        let size = self.size();
-        if position < size {
-            self.cells[position as usize] = byte;
-            Ok(())
-        } else {
-            Err(MemoryFault::own(position, size))
-        }
+        put_cell(&mut self.cells, position, byte)
     }
 }

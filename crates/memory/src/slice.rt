@@ -4,11 +4,9 @@ ghost use Rattle.memory.specs.Faults.{own_fault};
 ghost use Rattle.memory.specs.Layouts.{first_bytes};
 ghost use Rattle.std.specs.Prelude.{◌≡◌, length, slice_set};
 
+use crate::cells::{cell_count, put_cell, read_cell};
 use crate::fault::MemoryFault;
 use crate::interface::Memory;
-
-// The most bytes that a memory has.
-const MOST: usize = 4294967295;
 
 // A memory over a slice handed in: its first 4,294,967,295 bytes if it is longer.
 #[derive(Drop)]
@@ -34,16 +32,11 @@ impl<'a> Memory for SliceMemory<'a> {
     ghost short = { λ m. first_short m.slice.now };
 
     fn size(&self) -> u32 {
-        self.slice.len().min(MOST) as u32
+        cell_count(self.slice)
     }
 
     fn read(&self, position: u32) -> Result<u8, MemoryFault> {
-        let size = self.size();
-        if position < size {
-            Ok(self.slice[position as usize])
-        } else {
-            Err(MemoryFault::own(position, size))
-        }
+        read_cell(self.slice, position)
     }
 
     // Beside what every memory promises: the slice stays the one that was handed in.
@@ -53,12 +46,6 @@ impl<'a> Memory for SliceMemory<'a> {
         ensures faults { own_fault (length (first_bytes self.new.slice.now)) ≡ own_fault (length (first_bytes self.old.slice.now)) }
         ensures named { self.new.slice.ghost_name ≡ self.old.slice.ghost_name }
     {
-        let size = self.size();
-        if position < size {
-            self.slice[position as usize] = byte;
-            Ok(())
-        } else {
-            Err(MemoryFault::own(position, size))
-        }
+        put_cell(self.slice, position, byte)
     }
 }

@@ -1,5 +1,5 @@
 ghost use Rattle.std.specs.Prelude.{◌≡◌, ℕ, length, slice_set};
-ghost use Rattle.memory.specs.Answers.{handed_up, put_answer};
+ghost use Rattle.memory.specs.Answers.{put_answer};
 ghost use Rattle.memory.specs.Bounds.{window_short};
 ghost use Rattle.memory.specs.Layouts.{window_bytes, window_fault, put_below, lowered_answer};
 
@@ -40,16 +40,6 @@ impl<M> Window<M> {
     }
 }
 
-// An answer from below as the layer hands it up.
-fn handed_up<T>(answer: Result<T, MemoryFault>) -> Result<T, MemoryFault>
-    ensures { result ≡ handed_up answer }
-{
-    match answer {
-        Ok(done) => Ok(done),
-        Err(fault) => Err(fault.raise()),
-    }
-}
-
 impl<M: Memory> Window<M> {
     // The position below for one of the window's, or the window's own refusal.
     fn lowered(&self, position: u32) -> Result<u32, MemoryFault>
@@ -79,7 +69,7 @@ impl<M: Memory> Memory for Window<M> {
 
     fn read(&self, position: u32) -> Result<u8, MemoryFault> {
         let lower = self.lowered(position)?;
-        handed_up(self.below.read(lower))
+        self.below.read(lower).map_err(MemoryFault::raise)
     }
 
     // Beside what every memory promises: the window stays where it is, and below it the one byte changes.
@@ -93,6 +83,6 @@ impl<M: Memory> Memory for Window<M> {
         ensures below_faults { M.Memory.fault self.new.below ≡ M.Memory.fault self.old.below }
     {
         let lower = self.lowered(position)?;
-        handed_up(self.below.put(lower, byte))
+        self.below.put(lower, byte).map_err(MemoryFault::raise)
     }
 }

@@ -12,7 +12,7 @@
 --   place_of, size_of, count_of, class_in   what a block row tells
 --   block_in x                the block of a row; of a free row, one of no bytes at 0
 --   raised x, lowered x       a block with one handle more; with one less, and free once it has none
-use Rattle.std.specs.Prelude.{ℕ, ◌+◌, ◌-◌, Bool, true, false, cond, not, ◌&&◌, ◌==◌, nat_le}
+use Rattle.std.specs.Prelude.{ℕ, ◌+◌, ◌-◌, Bool, true, false, if◌then◌else◌, not, ◌&&◌, ◌==◌, nat_le}
 use Rattle.rows.specs.declared.block.Block.{Block}
 use Rattle.rows.specs.declared.block.BlockRow.{BlockRow}
 use Rattle.rows.specs.declared.block.BlockRow.TheVariants as block
@@ -120,8 +120,8 @@ block_in (block.Live b) = b
 
 abbrev pub raised : BlockRow → BlockRow
 raised block.Free = block.Free
-raised (block.Live b) = block.Live (record { place = b.place; size = b.size; count = b.count + 1; class = b.class })
+raised (block.Live b) = block.Live (record b { count = b.count + 1 })
 
 abbrev pub lowered : BlockRow → BlockRow
 lowered block.Free = block.Free
-lowered (block.Live b) = cond (nat_le b.count 1) block.Free (block.Live (record { place = b.place; size = b.size; count = b.count - 1; class = b.class }))
+lowered (block.Live b) = if nat_le b.count 1 then block.Free else block.Live (record b { count = b.count - 1 })

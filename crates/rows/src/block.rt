@@ -5,7 +5,7 @@ ghost use Rattle.rows.specs.Rows.{block_free, block_in, count_of, lowered, raise
 use crate::slots::Slot;
 
 // A block of bytes in the working part, with the number of its handles.
-#[derive(Clone, Copy, PartialEq, Eq, Debug)]
+#[derive(Clone, Copy, PartialEq, Eq, Debug, Default)]
 pub struct Block {
     pub place: u32,
     pub size: u32,
@@ -23,10 +23,7 @@ impl Slot for BlockRow {
     ghost vacant = { block_free };
 
     fn is_vacant(&self) -> bool {
-        match self {
-            BlockRow::Free => true,
-            BlockRow::Live(_) => false,
-        }
+        matches!(self, BlockRow::Free)
     }
 }
 
@@ -36,12 +33,7 @@ impl BlockRow {
         ensures { result ≡ block_in self }
     {
         match self {
-            BlockRow::Free => Block {
-                place: 0,
-                size: 0,
-                count: 0,
-                class: 0,
-            },
+            BlockRow::Free => Block::default(),
             BlockRow::Live(block) => block,
         }
     }

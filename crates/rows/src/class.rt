@@ -19,6 +19,6 @@ pub fn restored_capacity(class: u8) -> u32
     if class == 0 {
         0
     } else {
-        1 << (class.min(7) as u32 + 9)
+        1 << (u32::from(class).min(MOST) + 9)
     }
 }

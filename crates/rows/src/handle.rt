@@ -57,11 +57,7 @@ impl Slot for HandleRow {
     ghost vacant = { handle_free };
 
     fn is_vacant(&self) -> bool {
-        match self {
-            HandleRow::Free => true,
-            HandleRow::Writable(_) => false,
-            HandleRow::ReadOnly(_) => false,
-        }
+        matches!(self, HandleRow::Free)
     }
 }
 
@@ -75,9 +71,9 @@ impl HandleRow {
             HandleRow::Writable(handle) => Some(handle.block),
             HandleRow::ReadOnly(handle) => match handle.kind {
                 ReadOnlyKind::Static => None,
-                ReadOnlyKind::PromotableAlone(block) => Some(block),
-                ReadOnlyKind::PromotableCounted(block) => Some(block),
-                ReadOnlyKind::Shared(block) => Some(block),
+                ReadOnlyKind::PromotableAlone(block)
+                | ReadOnlyKind::PromotableCounted(block)
+                | ReadOnlyKind::Shared(block) => Some(block),
             },
         }
     }

@@ -14,8 +14,7 @@ pub trait Slot {
 pub fn row_at<R: Copy>(rows: &[R], row: u8, free: R) -> R
     ensures { result ≡ slice_index_or rows.now row free }
 {
-    let at = row as usize;
-    if at < rows.len() { rows[at] } else { free }
+    rows.get(row as usize).copied().unwrap_or(free)
 }
 
 // Changes the row of a number; past the last it changes nothing.
@@ -33,13 +32,10 @@ pub fn highest_vacant<R: Slot>(rows: &[R]) -> Option<u8>
     requires { length rows.now ≤ 64 }
     ensures { result ≡ highest R.Slot.vacant rows.now }
 {
-    let mut above = rows.len();
-    while above > 0 {
-        let index = above - 1;
+    for index in (0..rows.len()).rev() {
         if rows[index].is_vacant() {
             return Some(index as u8);
         }
-        above = index;
     }
     None
 }

@@ -9,7 +9,7 @@
 --   handle_row_check t row   the free handle row of highest number
 --   block_row_check t row    the free block row of highest number
 --   place_check t n row      the lowest place for a block of n bytes
-use Rattle.std.specs.Prelude.{ℕ, ◌-◌, Bool, cond, List, length, Ok, Err, Result, ◌==◌, nat_lt}
+use Rattle.std.specs.Prelude.{ℕ, ◌-◌, Bool, if◌then◌else◌, List, length, Ok, Err, Result, ◌==◌, nat_lt}
 use Rattle.memory.specs.declared.fault.MemoryFault.{MemoryFault}
 use Rattle.std.specs.Option.{ok_or}
 use Rattle.table.specs.PlaceLaw.{place_for}
@@ -35,13 +35,13 @@ or_refuse_with (Ok x) t m rest = rest x
 or_refuse_with (Err e) t m rest = (Err e, t, m)
 
 abbrev pub open_check : Table → ℕ → Result Unit Fault
-open_check t row = cond t.opened (Ok tt) (Err (Shut row))
+open_check t row = if t.opened then Ok tt else Err (Shut row)
 
 abbrev pub memory_check : Table → List ℕ → (ℕ → MemoryFault) → ℕ → Result Unit Fault
-memory_check t m f row = cond (t.limit == 0) (Ok tt) (cond (nat_lt (t.limit - 1) (length m)) (Ok tt) (Err (Memory row (f (t.limit - 1)))))
+memory_check t m f row = if t.limit == 0 then Ok tt else (if nat_lt (t.limit - 1) (length m) then Ok tt else Err (Memory row (f (t.limit - 1))))
 
 abbrev pub range_check : Bool → ℕ → Result Unit Fault
-range_check ok row = cond ok (Ok tt) (Err (OutOfRange row))
+range_check ok row = if ok then Ok tt else Err (OutOfRange row)
 
 abbrev pub handle_row_check : Table → ℕ → Result ℕ Fault
 handle_row_check t row = ok_or (highest handle_free t.handles) (NoHandleRow row)

@@ -5,7 +5,7 @@
 --   lower limit rs n best p  the lower of the best place so far and p, if p fits
 --   lowest_of limit rs n best ends   the lowest of the best place so far and the ends of the blocks in the last list
 --   lowest_place start limit rs n    the lowest place from start on: start itself, or the end of a block
-use Rattle.std.specs.Prelude.{ℕ, ◌+◌, Bool, true, false, cond, ◌&&◌, List, [], ◌∷◌, Some, None, Option, nat_le, nat_lt}
+use Rattle.std.specs.Prelude.{ℕ, ◌+◌, Bool, true, false, if◌then◌else◌, ◌&&◌, List, [], ◌∷◌, Some, None, Option, nat_le, nat_lt}
 use Rattle.rows.specs.declared.block.BlockRow.{BlockRow}
 use Rattle.rows.specs.declared.block.BlockRow.TheVariants.{Free, Live}
 
@@ -15,7 +15,7 @@ meets p n (Live b) = nat_lt 0 n && (nat_lt 0 b.size && (nat_lt p (b.place + b.si
 
 abbrev pub clear : ℕ → ℕ → List BlockRow → Bool
 clear p n [] = true
-clear p n (r ∷ rs) = cond (meets p n r) false (clear p n rs)
+clear p n (r ∷ rs) = if meets p n r then false else clear p n rs
 
 abbrev pub fits_at : ℕ → List BlockRow → ℕ → ℕ → Bool
 fits_at limit rs p n = nat_le (p + n) limit && clear p n rs
@@ -25,7 +25,7 @@ sooner p None = true
 sooner p (Some q) = nat_lt p q
 
 abbrev pub lower : ℕ → List BlockRow → ℕ → Option ℕ → ℕ → Option ℕ
-lower limit rs n best p = cond (sooner p best && fits_at limit rs p n) (Some p) best
+lower limit rs n best p = if sooner p best && fits_at limit rs p n then Some p else best
 
 abbrev pub lowest_of : ℕ → List BlockRow → ℕ → Option ℕ → List BlockRow → Option ℕ
 lowest_of limit rs n best [] = best

@@ -10,7 +10,7 @@
 --   let_go t h          the block of the handle h with one handle less, if it has one
 --   detach t i          row i freed, and its block with one handle less
 --   settle t i b x h    the block x in block row b, and the handle h over it in row i
-use Rattle.std.specs.Prelude.{ℕ, true, false, cond, replicate, sum_by, count_by, slice_index_or, slice_set}
+use Rattle.std.specs.Prelude.{ℕ, true, false, if◌then◌else◌, replicate, sum_by, count_by, slice_index_or, slice_set}
 use Rattle.rows.specs.Rows.{block_live, block_of, blocked, handle_live, lowered, raised, size_of}
 use Rattle.rows.specs.declared.block.Block.{Block}
 use Rattle.rows.specs.declared.block.BlockRow.{BlockRow}
@@ -27,22 +27,22 @@ abbrev pub block_at : Table → ℕ → BlockRow
 block_at t b = slice_index_or t.blocks b block.Free
 
 abbrev pub with_handle : Table → ℕ → HandleRow → Table
-with_handle t i h = record { number = t.number; opened = t.opened; fixed = t.fixed; limit = t.limit; handles = slice_set t.handles i h; blocks = t.blocks }
+with_handle t i h = record t { handles = slice_set t.handles i h }
 
 abbrev pub with_block : Table → ℕ → BlockRow → Table
-with_block t b x = record { number = t.number; opened = t.opened; fixed = t.fixed; limit = t.limit; handles = t.handles; blocks = slice_set t.blocks b x }
+with_block t b x = record t { blocks = slice_set t.blocks b x }
 
 abbrev pub new_table : Table
 new_table = record { number = 0; opened = false; fixed = 0; limit = 0; handles = replicate 64 row.Free; blocks = replicate 32 block.Free }
 
 abbrev pub opened_table : Table → ℕ → ℕ → ℕ → Table
-opened_table t n f s = record { number = n; opened = true; fixed = f; limit = s; handles = t.handles; blocks = t.blocks }
+opened_table t n f s = record t { number = n; opened = true; fixed = f; limit = s }
 
 abbrev pub attach : Table → ℕ → HandleRow → Table
 attach t i h = with_handle (with_block t (block_of h) (raised (block_at t (block_of h)))) i h
 
 abbrev pub let_go : Table → HandleRow → Table
-let_go t h = cond (blocked h) (with_block t (block_of h) (lowered (block_at t (block_of h)))) t
+let_go t h = if blocked h then with_block t (block_of h) (lowered (block_at t (block_of h))) else t
 
 abbrev pub detach : Table → ℕ → Table
 detach t i = with_handle (let_go t (handle_at t i)) i row.Free

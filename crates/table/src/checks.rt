@@ -6,6 +6,7 @@ use crate::places::find_place;
 use crate::table::Table;
 use faults::Fault;
 use memory::interface::Memory;
+use rows::slots::highest_vacant;
 
 // The row that a fault names where there is no token.
 pub const NO_ROW: u8 = 64;
@@ -35,25 +36,23 @@ impl Table {
     pub fn check_memory<M: Memory>(&self, mem: &M, row: u8) -> Result<(), Fault>
         ensures { result ≡ memory_check self.now (M.bytes mem.now) (M.fault mem.now) row }
     {
-        if self.limit == 0 {
-            return Ok(());
+        if self.limit > 0 {
+            mem.read(self.limit - 1)
+                .map_err(|fault| Fault::Memory { row, fault })?;
         }
-        match mem.read(self.limit - 1) {
-            Ok(_) => Ok(()),
-            Err(fault) => Err(Fault::Memory { row, fault }),
-        }
+        Ok(())
     }
 
     pub fn vacant_handle(&self, row: u8) -> Result<u8, Fault>
         ensures { result ≡ handle_row_check self.now row }
     {
-        self.free_handle().ok_or(Fault::NoHandleRow { row })
+        highest_vacant(&self.handles).ok_or(Fault::NoHandleRow { row })
     }
 
     pub fn vacant_block(&self, row: u8) -> Result<u8, Fault>
         ensures { result ≡ block_row_check self.now row }
     {
-        self.free_block().ok_or(Fault::NoBlockRow { row })
+        highest_vacant(&self.blocks).ok_or(Fault::NoBlockRow { row })
     }
 
     // The place of a new block, which ends inside the working part.
@@ -63,9 +62,8 @@ impl Table {
         ensures inside { IfOk result (λ place. place + size ≤ self.now.limit) }
         ensures small { IfOk result (λ place. place + size < 2 ^ 32) }
     {
-        match find_place(self.fixed, self.limit, &self.blocks, size) {
-            Some(place) => Ok(place as u32),
-            None => Err(Fault::NoPlace { row, size }),
-        }
+        find_place(self.fixed, self.limit, &self.blocks, size)
+            .map(|place| place as u32)
+            .ok_or(Fault::NoPlace { row, size })
     }
 }

@@ -20,38 +20,40 @@ fn would_meet(place: u64, size: u64, row: BlockRow) -> bool
     }
 }
 
-fn is_clear(place: u64, size: u64, rows: &[BlockRow; 32]) -> bool
-    requires { place + size < 2 ^ 64 }
-    ensures { result ≡ clear place size rows.now }
-{
-    for row in rows {
-        if would_meet(place, size, *row) {
-            return false;
-        }
+// What a place is sought for: a block of this size, below the end of the working part and clear of the live blocks.
+#[derive(Clone, Copy)]
+struct Search<'a> {
+    limit: u32,
+    rows: &'a [BlockRow],
+    size: u64,
+}
+
+impl Search<'_> {
+    fn is_clear(&self, place: u64) -> bool
+        requires { place + self.now.size < 2 ^ 64 }
+        ensures { result ≡ clear place self.now.size self.now.rows.now }
+    {
+        self.rows
+            .iter()
+            .all(|row| !would_meet(place, self.size, *row))
     }
-    true
-}
 
-// Whether a block of this size fits at a place, below the end of the working part.
-fn would_fit(limit: u32, rows: &[BlockRow; 32], place: u64, size: u64) -> bool
-    ensures { result ≡ fits_at limit rows.now place size }
-{
-    let limit = limit as u64;
-    place <= limit && size <= limit - place && is_clear(place, size, rows)
-}
+    fn fits_at(&self, place: u64) -> bool
+        ensures { result ≡ fits_at self.now.limit self.now.rows.now place self.now.size }
+    {
+        let limit = self.limit as u64;
+        place <= limit && self.size <= limit - place && self.is_clear(place)
+    }
 
-// The lower of the best place so far and a candidate, if the candidate fits.
-fn pick(limit: u32, rows: &[BlockRow; 32], size: u64, best: Option<u64>, place: u64) -> Option<u64>
-    ensures { result ≡ lower limit rows.now size best place }
-{
-    let sooner = match best {
-        None => true,
-        Some(other) => place < other,
-    };
-    if sooner && would_fit(limit, rows, place, size) {
-        Some(place)
-    } else {
-        best
+    // The lower of the best place so far and a candidate, if the candidate fits.
+    fn lower(&self, best: Option<u64>, place: u64) -> Option<u64>
+        ensures { result ≡ lower self.now.limit self.now.rows.now self.now.size best place }
+    {
+        if best.is_none_or(|other| place < other) && self.fits_at(place) {
+            Some(place)
+        } else {
+            best
+        }
     }
 }
 
@@ -59,16 +61,11 @@ fn pick(limit: u32, rows: &[BlockRow; 32], size: u64, best: Option<u64>, place: 
 pub(crate) fn find_place(start: u32, limit: u32, rows: &[BlockRow; 32], size: u64) -> Option<u64>
     ensures { result ≡ lowest_place start limit rows.now size }
 {
-    let mut best = pick(limit, rows, size, None, start as u64);
+    let search = Search { limit, rows, size };
+    let mut best = search.lower(None, start as u64);
     for row in rows {
         if let BlockRow::Live(block) = row {
-            best = pick(
-                limit,
-                rows,
-                size,
-                best,
-                block.place as u64 + block.size as u64,
-            );
+            best = search.lower(best, block.place as u64 + block.size as u64);
         }
     }
     best

@@ -1,14 +1,13 @@
 // The plain table inside a ledger. Its rows are changed by these functions alone.
 ghost use Rattle.std.specs.Prelude.{◌≡◌, ◌<◌, true};
-ghost use Rattle.rows.specs.Rows.{block_free, block_of, blocked, count_of, handle_free};
-ghost use Rattle.rows.specs.Slots.{highest};
+ghost use Rattle.rows.specs.Rows.{block_of, blocked, count_of};
 ghost use Rattle.table.specs.Tables.{attach, block_at, detach, handle_at, opened_table, settle, with_block, with_handle};
 
 use rows::block::{Block, BlockRow};
 use rows::handle::HandleRow;
-use rows::slots::{highest_vacant, row_at, set_row};
+use rows::slots::{row_at, set_row};
 
-#[derive(Drop)]
+#[derive(Clone, PartialEq, Eq, Debug, Drop)]
 pub struct Table {
     pub number: u32,
     pub opened: bool,
@@ -53,18 +52,6 @@ impl Table {
         ensures { self.new ≡ with_block self.old row to }
     {
         set_row(&mut self.blocks, row, to);
-    }
-
-    pub(crate) fn free_handle(&self) -> Option<u8>
-        ensures { result ≡ highest handle_free self.now.handles }
-    {
-        highest_vacant(&self.handles)
-    }
-
-    pub(crate) fn free_block(&self) -> Option<u8>
-        ensures { result ≡ highest block_free self.now.blocks }
-    {
-        highest_vacant(&self.blocks)
     }
 
     // The handle in a row, and its block with one handle more.

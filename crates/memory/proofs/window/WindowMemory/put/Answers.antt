@@ -1,6 +1,7 @@
 use Rattle.std.proofs.Common.{Err, refl, ap, ◌∙◌}
 use Rattle.std.proofs.lemmas.Result.{err_from_is_err_and}
 use Rattle.memory.specs.Answers.{handed_up}
+use Rattle.memory.proofs.Answering.{handed_up_is}
 use Rattle.memory.proofs.Windowed.{put_refused, put_passed, unmoved_refused, moved_passed, window_put, window_fault_put}
 use Rattle.memory.proofs.window.WindowMemory.put.Goals as goal
 
@@ -34,7 +35,7 @@ returns g c =
     let short = g.M.Memory.short w.below in
     let below = c.put.ensures.memory ∙ moved_passed w.start w.length xs f p s short c.in_ok-lower.ensures b in
     record {
-      answer = c.handed_up.ensures ∙ ap handed_up c.put.ensures.answer ∙ put_passed w.start w.length xs f p s short c.in_ok-lower.ensures;
+      answer = handed_up_is _ _ c.map_err.ensures.cases ∙ ap handed_up c.put.ensures.answer ∙ put_passed w.start w.length xs f p s short c.in_ok-lower.ensures;
       memory = window_put w.start w.length xs p b _ short below;
       faults = window_fault_put w.start w.length xs p b _ short below f _ c.put.ensures.faults;
       start = refl;

@@ -1,6 +1,7 @@
 use Rattle.std.proofs.Common.{Err, ap, ◌∙◌}
 use Rattle.std.proofs.lemmas.Result.{err_from_is_err_and}
 use Rattle.memory.specs.Answers.{handed_up}
+use Rattle.memory.proofs.Answering.{handed_up_is}
 use Rattle.memory.proofs.Windowed.{read_refused, read_passed}
 use Rattle.memory.proofs.window.WindowMemory.read.Goals as goal
 
@@ -14,5 +15,5 @@ returns-in_err-lower g c =
 pub returns : goal.returns
 returns g c =
     let w = c.args.self.now in
-    c.handed_up.ensures ∙ ap handed_up c.read.ensures
+    handed_up_is _ _ c.map_err.ensures.cases ∙ ap handed_up c.read.ensures
     ∙ read_passed w.start w.length (g.M.Memory.bytes w.below) (g.M.Memory.fault w.below) c.args.position c.in_ok-lower.lower (g.M.Memory.short w.below) c.in_ok-lower.ensures
