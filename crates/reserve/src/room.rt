@@ -18,7 +18,7 @@ use table::sound::SoundTable;
 use table::table::Table;
 
 // A handle once there is room, and the bytes that slid.
-#[derive(Clone, Copy)]
+#[derive(Clone, Copy, PartialEq, Eq, Debug)]
 pub struct Room {
     pub slid: u32,
     pub handle: WritableHandle,

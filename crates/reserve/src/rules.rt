@@ -9,7 +9,7 @@ use rows::block::Block;
 use rows::class::restored_capacity;
 use rows::handle::{WritableHandle, WritableKind};
 
-#[derive(Clone, Copy)]
+#[derive(Clone, Copy, PartialEq, Eq, Debug)]
 pub enum ReserveRule {
     // The spare bytes are there.
     Keep,

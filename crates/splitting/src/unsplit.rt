@@ -16,7 +16,7 @@ use table::sound::SoundTable;
 use table::table::Table;
 
 // How another handle lies to a first one.
-#[derive(Clone, Copy)]
+#[derive(Clone, Copy, PartialEq, Eq, Debug)]
 pub enum Joint {
     // The other holds no bytes.
     Nothing,

@@ -17,7 +17,7 @@ use table::sound::SoundTable;
 use table::table::Table;
 
 // The row and the place of a new handle.
-#[derive(Clone, Copy)]
+#[derive(Clone, Copy, PartialEq, Eq, Debug)]
 pub struct Made {
     pub row: u8,
     pub place: u32,
