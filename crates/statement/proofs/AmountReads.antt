@@ -11,10 +11,11 @@ use Rattle.std.specs.Char.{is_ascii_digit}
 use Rattle.std.specs.List.{take_while}
 use Rattle.std.proofs.lemmas.List.Sums.{take_while-cons}
 use Rattle.std.proofs.lemmas.List.{get_or_at}
+use Rattle.std.proofs.lemmas.List.Elements.{All-nil, All-cons, All-tail}
 use Rattle.std.proofs.lemmas.Bool.{cases_Bool, cases_eq, ne_eqb, false≢true}
 use Rattle.std.proofs.lemmas.Bool.Decides.{nat_tests}
-use Rattle.statement.specs.Amounts.{stands_at, most_digits, leading_digits, decimal, signed, digits_from, amount_at}
-use Rattle.statement.specs.Grammar.{sign, AllDigits, Spells}
+use Rattle.statement.specs.Amounts.{IsDigit, AllDigits, stands_at, most_digits, leading_digits, decimal, signed, digits_from, amount_at}
+use Rattle.statement.specs.Grammar.{sign, Spells}
 
 abbrev pub First : (ℕ → Type 0) → List ℕ → Type 0
 First P [] = Unit {0}
@@ -61,19 +62,19 @@ digits_found zero (d ∷ ds) rest all few ended = absurd (omega arith)
 digits_found (suc n) [] [] all few ended = refl
 digits_found (suc n) [] (c ∷ rest) all few ended = ⊎_elim (λ full. absurd (omega arith)) (λ none. rw none) ended
 digits_found (suc n) (d ∷ ds) rest all few ended =
-    rw (take_while-cons is_ascii_digit d (take n (ds ++ rest)), all.0)
-    (ap (λ l. d ∷ l) (digits_found n ds rest all.1 (omega arith) (⊎_elim (λ full. inl (omega arith)) (λ none. inr none) ended)))
+    rw (take_while-cons is_ascii_digit d (take n (ds ++ rest)), all 0 0 (omega arith))
+    (ap (λ l. d ∷ l) (digits_found n ds rest (All-tail IsDigit d ds all) (omega arith) (⊎_elim (λ full. inl (omega arith)) (λ none. inr none) ended)))
 
 digit_first : (ds rest : List ℕ) → AllDigits ds → 0 < length ds → Other 45 (ds ++ rest)
 digit_first [] rest all some = absurd (omega arith)
-digit_first (d ∷ ds) rest all some = λ e. let digit = all.0 in grind (arith, nat_tests)
+digit_first (d ∷ ds) rest all some = λ e. let digit = all 0 0 (omega arith) in grind (arith, nat_tests)
 
 module _ (minus : Bool) (from : ℕ) (xs : List ℕ) where
   digits_read : (ds rest : List ℕ) (behind : ℕ) → drop from xs ≡ ds ++ rest → leading_digits (ds ++ rest) ≡ ds → 0 < length ds → from + length ds ≡ behind → digits_from minus from xs ≡ Ok (record { cents = signed minus (decimal ds); behind = behind })
   digits_read ds rest behind e found some size = rw (e, found, ne_eqb (length ds) 0 (omega arith), size)
 
   no_digits_read : NoDigit (drop from xs) → digits_from minus from xs ≡ Err (record { at = from })
-  no_digits_read none = rw (digits_found most_digits [] (drop from xs) tt (omega arith) (inr none))
+  no_digits_read none = rw (digits_found most_digits [] (drop from xs) (All-nil IsDigit) (omega arith) (inr none))
 
 module _ (l : ℕ) where
   amount_of_digits : (minus : Bool) (ds rest : List ℕ) → AllDigits ds → 0 < length ds → leading_digits (ds ++ rest) ≡ ds → amount_at (l ∷ 59 ∷ ((sign minus ++ ds) ++ rest)) 2 ≡ Ok (record { cents = signed minus (decimal ds); behind = length (l ∷ 59 ∷ (sign minus ++ ds)) })
@@ -104,13 +105,13 @@ pub record Cut (n : ℕ) (xs : List ℕ) : Type 0 where
   pub ended : Ended n digits rest
 
 cut : (n : ℕ) (xs : List ℕ) → Cut n xs
-cut zero xs = record { digits = []; rest = xs; written = refl; all_digits = tt; few = omega arith; ended = inl refl }
-cut (suc n) [] = record { digits = []; rest = []; written = refl; all_digits = tt; few = omega arith; ended = inr tt }
+cut zero xs = record { digits = []; rest = xs; written = refl; all_digits = All-nil IsDigit; few = omega arith; ended = inl refl }
+cut (suc n) [] = record { digits = []; rest = []; written = refl; all_digits = All-nil IsDigit; few = omega arith; ended = inr tt }
 cut (suc n) (x ∷ xs) =
     let more = cut n xs in
     ⊎_elim
-    (λ e. record { digits = x ∷ more.digits; rest = more.rest; written = ap (λ l. x ∷ l) more.written; all_digits = (e, more.all_digits); few = omega arith; ended = ⊎_elim (λ f. inl (ap suc f)) (λ f. inr f) more.ended })
-    (λ e. record { digits = []; rest = x ∷ xs; written = refl; all_digits = tt; few = omega arith; ended = inr e })
+    (λ e. record { digits = x ∷ more.digits; rest = more.rest; written = ap (λ l. x ∷ l) more.written; all_digits = All-cons IsDigit x more.digits e more.all_digits; few = omega arith; ended = ⊎_elim (λ f. inl (ap suc f)) (λ f. inr f) more.ended })
+    (λ e. record { digits = []; rest = x ∷ xs; written = refl; all_digits = All-nil IsDigit; few = omega arith; ended = inr e })
     (cases_Bool (is_ascii_digit x))
 
 pub data AmountFirst : List ℕ → Type 0 where

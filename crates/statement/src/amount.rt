@@ -1,7 +1,7 @@
 ghost use Rattle.std.specs.Char.{is_ascii_digit};
 ghost use Rattle.std.specs.List.{prefix_len};
-ghost use Rattle.std.specs.Prelude.{◌≡◌, ◌≤◌, length, pos, All, IsTrue};
-ghost use Rattle.statement.specs.Amounts.{amount_at, decimal, digits_from, leading_digits, most_digits, semicolon_at, stands_at};
+ghost use Rattle.std.specs.Prelude.{◌≡◌, ◌≤◌, length, pos};
+ghost use Rattle.statement.specs.Amounts.{AllDigits, amount_at, decimal, digits_from, leading_digits, most_digits, semicolon_at, stands_at};
 
 use crate::malformed::Malformed;
 
@@ -9,7 +9,7 @@ use crate::malformed::Malformed;
 const MOST_DIGITS: usize = 12;
 
 // An amount that was read out of a line.
-#[derive(Clone, Copy)]
+#[derive(Clone, Copy, PartialEq, Eq, Debug)]
 pub struct Amount {
     pub cents: i64,
     // The index behind its last digit.
@@ -27,7 +27,7 @@ fn count_digits(bytes: &[u8]) -> usize
 #[tactic(auto, using(crate::proofs::DigitSteps::counted_digits))]
 fn leading_digits(bytes: &[u8]) -> &[u8]
     ensures value { result.now ≡ leading_digits bytes.now }
-    ensures digits { All (λ b. IsTrue (is_ascii_digit b)) result.now }
+    ensures digits { AllDigits result.now }
     ensures few { length result.now ≤ most_digits }
     ensures within { length result.now ≤ length bytes.now }
 {
@@ -36,8 +36,9 @@ fn leading_digits(bytes: &[u8]) -> &[u8]
 }
 
 // The number that digits spell.
+#[tactic(auto, using(crate::proofs::DigitSteps::digit_sums))]
 fn decimal(digits: &[u8]) -> i64
-    requires digits { All (λ b. IsTrue (is_ascii_digit b)) digits.now }
+    requires digits { AllDigits digits.now }
     requires few { length digits.now ≤ most_digits }
     ensures { result ≡ pos (decimal digits.now) }
 {

@@ -7,14 +7,14 @@ use crate::malformed::Malformed;
 use lines::line::Line;
 
 // A part of a line.
-#[derive(Clone, Copy)]
+#[derive(Clone, Copy, PartialEq, Eq, Debug)]
 pub struct Part {
     pub start: usize,
     pub length: usize,
 }
 
 // An amount, a semicolon and a text, as payments and invoices have them.
-#[derive(Clone, Copy)]
+#[derive(Clone, Copy, PartialEq, Eq, Debug)]
 pub struct Worded {
     pub amount: i64,
     // Everything behind the semicolon, empty or not.
@@ -22,7 +22,7 @@ pub struct Worded {
 }
 
 // What a line of a statement says.
-#[derive(Clone, Copy)]
+#[derive(Clone, Copy, PartialEq, Eq, Debug)]
 pub enum Record {
     Balance(i64),
     Payment(Worded),
