@@ -6,14 +6,16 @@
 --   Cut n xs            xs in two: the digits that it begins with, n at the most, and the rest
 --   Unspelt minus xs    xs begins with no digit, nor with a minus unless one stands before it
 --   AmountFirst xs     xs in two: an amount with what stands behind it, or a sign and no digit
-use Rattle.std.proofs.Common.{◌≡◌, ℕ, zero, suc, ◌+◌, ◌<◌, ◌≤◌, Bool, true, false, eqb, ◌⊎◌, List, [], ◌∷◌, ◌++◌, length, drop, ℤ, Ok, Err, refl, ap, ◌∙◌, subst, inl, inr, ⊎_elim, append_assoc, arith, length-append}
+use Rattle.std.proofs.Common.{◌≡◌, ℕ, zero, suc, ◌+◌, ◌<◌, ◌≤◌, Bool, true, false, eqb, ◌⊎◌, List, [], ◌∷◌, ◌++◌, length, take, drop, ℤ, Ok, Err, refl, ap, ◌∙◌, subst, inl, inr, ⊎_elim, append_assoc, arith, length-append}
 use Rattle.std.specs.Char.{is_ascii_digit}
-use Rattle.std.specs.List.{prefix_len}
-use Rattle.std.proofs.lemmas.List.{take_at, get_or_at}
+use Rattle.std.specs.List.{take_while}
+use Rattle.std.proofs.lemmas.List.Sums.{take_while-cons}
+use Rattle.std.proofs.lemmas.List.{get_or_at}
+use Rattle.std.proofs.lemmas.List.Elements.{All-nil, All-cons, All-tail}
 use Rattle.std.proofs.lemmas.Bool.{cases_Bool, cases_eq, ne_eqb, false≢true}
 use Rattle.std.proofs.lemmas.Bool.Decides.{nat_tests}
-use Rattle.statement.specs.Amounts.{stands_at, most_digits, digit_count, decimal, signed, digits_from, amount_at}
-use Rattle.statement.specs.Grammar.{sign, AllDigits, Spells}
+use Rattle.statement.specs.Amounts.{IsDigit, AllDigits, stands_at, most_digits, leading_digits, decimal, signed, digits_from, amount_at}
+use Rattle.statement.specs.Grammar.{sign, Spells}
 
 abbrev pub First : (ℕ → Type 0) → List ℕ → Type 0
 First P [] = Unit {0}
@@ -54,38 +56,34 @@ pub other_next : (front : List ℕ) (b : ℕ) (rest : List ℕ) → Other b rest
 other_next front b [] h = let size = length-append {A = ℕ} front [] in grind (arith, nat_tests)
 other_next front b (c ∷ rest) h = stands_next front c b rest ∙ ne_eqb c b h
 
-leading_passed : (ds rest : List ℕ) → AllDigits ds → prefix_len is_ascii_digit (ds ++ rest) ≡ length ds + prefix_len is_ascii_digit rest
-leading_passed [] rest h = omega arith
-leading_passed (d ∷ ds) rest h = let more = leading_passed ds rest h.1 in rw h.0 (omega arith)
-
-leading_none : (rest : List ℕ) → NoDigit rest → prefix_len is_ascii_digit rest ≡ 0
-leading_none [] h = refl
-leading_none (c ∷ rest) h = rw h
-
-count_digits : (ds rest : List ℕ) → AllDigits ds → length ds ≤ most_digits → Ended most_digits ds rest → digit_count (ds ++ rest) ≡ length ds
-count_digits ds rest all few ended =
-    let passed = leading_passed ds rest all in
-    ⊎_elim (λ full. omega arith) (λ none. omega (arith, leading_none rest none)) ended
+digits_found : (n : ℕ) (ds rest : List ℕ) → AllDigits ds → length ds ≤ n → Ended n ds rest → take_while is_ascii_digit (take n (ds ++ rest)) ≡ ds
+digits_found zero [] rest all few ended = refl
+digits_found zero (d ∷ ds) rest all few ended = absurd (omega arith)
+digits_found (suc n) [] [] all few ended = refl
+digits_found (suc n) [] (c ∷ rest) all few ended = ⊎_elim (λ full. absurd (omega arith)) (λ none. rw none) ended
+digits_found (suc n) (d ∷ ds) rest all few ended =
+    rw (take_while-cons is_ascii_digit d (take n (ds ++ rest)), all 0 0 (omega arith))
+    (ap (λ l. d ∷ l) (digits_found n ds rest (All-tail IsDigit d ds all) (omega arith) (⊎_elim (λ full. inl (omega arith)) (λ none. inr none) ended)))
 
 digit_first : (ds rest : List ℕ) → AllDigits ds → 0 < length ds → Other 45 (ds ++ rest)
 digit_first [] rest all some = absurd (omega arith)
-digit_first (d ∷ ds) rest all some = λ e. let digit = all.0 in grind (arith, nat_tests)
+digit_first (d ∷ ds) rest all some = λ e. let digit = all 0 0 (omega arith) in grind (arith, nat_tests)
 
 module _ (minus : Bool) (from : ℕ) (xs : List ℕ) where
-  digits_read : (ds rest : List ℕ) (behind : ℕ) → drop from xs ≡ ds ++ rest → digit_count (ds ++ rest) ≡ length ds → 0 < length ds → from + length ds ≡ behind → digits_from minus from xs ≡ Ok (record { cents = signed minus (decimal ds); behind = behind })
-  digits_read ds rest behind e count some size = rw (e, count, ne_eqb (length ds) 0 (omega arith), take_at ds rest (length ds) refl, size)
+  digits_read : (ds rest : List ℕ) (behind : ℕ) → drop from xs ≡ ds ++ rest → leading_digits (ds ++ rest) ≡ ds → 0 < length ds → from + length ds ≡ behind → digits_from minus from xs ≡ Ok (record { cents = signed minus (decimal ds); behind = behind })
+  digits_read ds rest behind e found some size = rw (e, found, ne_eqb (length ds) 0 (omega arith), size)
 
   no_digits_read : NoDigit (drop from xs) → digits_from minus from xs ≡ Err (record { at = from })
-  no_digits_read none = rw (leading_none (drop from xs) none)
+  no_digits_read none = rw (digits_found most_digits [] (drop from xs) (All-nil IsDigit) (omega arith) (inr none))
 
 module _ (l : ℕ) where
-  amount_of_digits : (minus : Bool) (ds rest : List ℕ) → AllDigits ds → 0 < length ds → digit_count (ds ++ rest) ≡ length ds → amount_at (l ∷ 59 ∷ ((sign minus ++ ds) ++ rest)) 2 ≡ Ok (record { cents = signed minus (decimal ds); behind = length (l ∷ 59 ∷ (sign minus ++ ds)) })
-  amount_of_digits true ds rest all some count =
+  amount_of_digits : (minus : Bool) (ds rest : List ℕ) → AllDigits ds → 0 < length ds → leading_digits (ds ++ rest) ≡ ds → amount_at (l ∷ 59 ∷ ((sign minus ++ ds) ++ rest)) 2 ≡ Ok (record { cents = signed minus (decimal ds); behind = length (l ∷ 59 ∷ (sign minus ++ ds)) })
+  amount_of_digits true ds rest all some found =
       rw (stands_next (l ∷ 59 ∷ []) 45 45 (ds ++ rest))
-      (digits_read true 3 (l ∷ 59 ∷ 45 ∷ (ds ++ rest)) ds rest (suc (suc (suc (length ds)))) refl count some (omega arith))
-  amount_of_digits false ds rest all some count =
+      (digits_read true 3 (l ∷ 59 ∷ 45 ∷ (ds ++ rest)) ds rest (suc (suc (suc (length ds)))) refl found some (omega arith))
+  amount_of_digits false ds rest all some found =
       rw (other_next (l ∷ 59 ∷ []) 45 (ds ++ rest) (digit_first ds rest all some))
-      (digits_read false 2 (l ∷ 59 ∷ (ds ++ rest)) ds rest (suc (suc (length ds))) refl count some (omega arith))
+      (digits_read false 2 (l ∷ 59 ∷ (ds ++ rest)) ds rest (suc (suc (length ds))) refl found some (omega arith))
 
   pub unspelt_reads : (minus : Bool) (rest : List ℕ) → Unspelt minus rest → amount_at (l ∷ 59 ∷ (sign minus ++ rest)) 2 ≡ Err (record { at = length (l ∷ 59 ∷ sign minus) })
   unspelt_reads true rest h =
@@ -96,7 +94,7 @@ module _ (l : ℕ) where
       (no_digits_read false 2 (l ∷ 59 ∷ rest) (first_like (λ c k. k.0) rest h))
 
   pub spelt_reads : (a : List ℕ) (z : ℤ) (s : Spells a z) (rest : List ℕ) → Ended most_digits s.digits rest → amount_at (l ∷ 59 ∷ (a ++ rest)) 2 ≡ Ok (record { cents = z; behind = length (l ∷ 59 ∷ a) })
-  spelt_reads a z s rest ended = rw (s.written, s.value) (amount_of_digits s.minus s.digits rest s.all_digits s.some (count_digits s.digits rest s.all_digits s.few ended))
+  spelt_reads a z s rest ended = rw (s.written, s.value) (amount_of_digits s.minus s.digits rest s.all_digits s.some (digits_found most_digits s.digits rest s.all_digits s.few ended))
 
 pub record Cut (n : ℕ) (xs : List ℕ) : Type 0 where
   pub digits : List ℕ
@@ -107,13 +105,13 @@ pub record Cut (n : ℕ) (xs : List ℕ) : Type 0 where
   pub ended : Ended n digits rest
 
 cut : (n : ℕ) (xs : List ℕ) → Cut n xs
-cut zero xs = record { digits = []; rest = xs; written = refl; all_digits = tt; few = omega arith; ended = inl refl }
-cut (suc n) [] = record { digits = []; rest = []; written = refl; all_digits = tt; few = omega arith; ended = inr tt }
+cut zero xs = record { digits = []; rest = xs; written = refl; all_digits = All-nil IsDigit; few = omega arith; ended = inl refl }
+cut (suc n) [] = record { digits = []; rest = []; written = refl; all_digits = All-nil IsDigit; few = omega arith; ended = inr tt }
 cut (suc n) (x ∷ xs) =
     let more = cut n xs in
     ⊎_elim
-    (λ e. record { digits = x ∷ more.digits; rest = more.rest; written = ap (λ l. x ∷ l) more.written; all_digits = (e, more.all_digits); few = omega arith; ended = ⊎_elim (λ f. inl (ap suc f)) (λ f. inr f) more.ended })
-    (λ e. record { digits = []; rest = x ∷ xs; written = refl; all_digits = tt; few = omega arith; ended = inr e })
+    (λ e. record { digits = x ∷ more.digits; rest = more.rest; written = ap (λ l. x ∷ l) more.written; all_digits = All-cons IsDigit x more.digits e more.all_digits; few = omega arith; ended = ⊎_elim (λ f. inl (ap suc f)) (λ f. inr f) more.ended })
+    (λ e. record { digits = []; rest = x ∷ xs; written = refl; all_digits = All-nil IsDigit; few = omega arith; ended = inr e })
     (cases_Bool (is_ascii_digit x))
 
 pub data AmountFirst : List ℕ → Type 0 where

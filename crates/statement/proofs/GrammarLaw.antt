@@ -2,8 +2,9 @@
 --   GoesWrong xs     xs in two: what a lawful line can begin with, and what goes wrong behind it
 use Rattle.std.proofs.Common.{◌≡◌, ℕ, ◌+◌, ◌<◌, ◌≤◌, Bool, false, ◌⊎◌, List, [], ◌∷◌, ◌++◌, length, take, ℤ, Ok, Err, sym, refl, ap, ◌∙◌, subst, inl, inr, ⊎_elim, append_assoc, arith, length-append}
 use Rattle.std.proofs.lemmas.List.{append-nil, take_at}
+use Rattle.std.proofs.lemmas.List.Elements.{All-nil, All-cons}
 use Rattle.std.proofs.lemmas.Bool.{cases_eq}
-use Rattle.statement.specs.Amounts.{most_digits, signed}
+use Rattle.statement.specs.Amounts.{IsDigit, most_digits, signed}
 use Rattle.statement.specs.Grammar.{sign, Spells, Says, Lawful, Begins, ReadRight}
 use Rattle.statement.specs.Records.{record_of}
 use Rattle.statement.specs.declared.malformed.Malformed.{Malformed}
@@ -30,7 +31,7 @@ front_begins : (front more : List ℕ) → Begins (front ++ more) → Begins fro
 front_begins front more b = (more ++ b.0, subst Lawful (append_assoc front more b.0) b.1)
 
 zero_spelt : (minus : Bool) → Spells (sign minus ++ 48 ∷ []) (signed minus 0)
-zero_spelt minus = record { minus = minus; digits = 48 ∷ []; written = refl; all_digits = (refl, tt); some = omega arith; few = omega arith; value = refl }
+zero_spelt minus = record { minus = minus; digits = 48 ∷ []; written = refl; all_digits = All-cons IsDigit 48 [] refl (All-nil IsDigit); some = omega arith; few = omega arith; value = refl }
 
 wrong_begins : {front rest : List ℕ} → Wrong front rest → Begins front
 wrong_begins (no_letter h) = front_begins [] (66 ∷ 59 ∷ 48 ∷ []) (letter_begins balance (zero_spelt false))
@@ -91,7 +92,7 @@ every_line (x ∷ xs) =
     (cases_letter x)
 
 no_lawful_read : (xs : List ℕ) (m : Malformed) → record_of xs ≡ Err m → Lawful xs → ⊥
-no_lawful_read xs m failed (r, s) = let read = said_right xs r s in let never : ◌≡◌ {A = ℕ} 0 1 = cc in omega arith
+no_lawful_read xs m failed (r, s) = let read = said_right xs r s in cc
 
 wrong_stops : (front rest : List ℕ) → Wrong front rest → 0 < length rest → Begins (take (length front + 1) (front ++ rest)) → ⊥
 wrong_stops front [] w some b = omega arith
@@ -104,7 +105,7 @@ says_right : (xs : List ℕ) (r : Record) → record_of xs ≡ Ok r → Says xs 
 says_right xs r read =
     ⊎_elim
     (λ lawful. let said = said_right xs lawful.0 lawful.1 in subst (Says xs) (cc) lawful.1)
-    (λ g. let failed = wrong_read g.wrong in let whole = g.written in let never : ◌≡◌ {A = ℕ} 0 1 = cc in absurd (omega arith))
+    (λ g. let failed = wrong_read g.wrong in let whole = g.written in cc)
     (every_line xs)
 
 module _ (xs : List ℕ) (m : Malformed) (failed : record_of xs ≡ Err m) where

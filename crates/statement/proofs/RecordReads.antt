@@ -2,12 +2,12 @@
 --   WordedLetter l make   the letter l begins the records that make makes of an amount and a text
 --   Letter l               l begins some record
 --   Wrong front rest       a line front ++ rest goes wrong where front ends: a lawful one begins with front and does not go on as rest does
-use Rattle.std.proofs.Common.{◌≡◌, ℕ, ◌+◌, ◌-◌, Bool, cond, eqb, List, [], ◌∷◌, ◌++◌, length, ℤ, Ok, Err, sym, refl, ap, ◌∙◌, inr, arith, length-append}
+use Rattle.std.proofs.Common.{◌≡◌, ℕ, ◌+◌, ◌-◌, Bool, if◌then◌else◌, ◌==◌, List, [], ◌∷◌, ◌++◌, length, ℤ, Ok, Err, sym, refl, ap, ◌∙◌, inr, arith, length-append}
 use Rattle.std.proofs.lemmas.List.{append-nil}
 use Rattle.std.proofs.lemmas.Bool.{ne_eqb, eq-eqb}
 use Rattle.statement.specs.Amounts.{most_digits, semicolon_at, amount_at}
 use Rattle.statement.specs.Grammar.{sign, Spells, SaysBalance, SaysWorded, Says}
-use Rattle.statement.specs.Records.{and_then, balance_of, behind_letter, record_of}
+use Rattle.statement.specs.Records.{◌>>=◌, balance_of, behind_letter, record_of}
 use Rattle.statement.specs.declared.malformed.Malformed.{Malformed}
 use Rattle.statement.specs.declared.record.Record.{Record}
 use Rattle.statement.specs.declared.record.Record.TheVariants.{Balance, Payment, Charge, Return}
@@ -43,10 +43,10 @@ says_worded payment s = s
 says_worded charge s = s
 says_worded return s = s
 
-balance_read : (rest : List ℕ) → record_of (66 ∷ rest) ≡ and_then (balance_of (66 ∷ rest)) (λ amount. Ok (Balance amount))
+balance_read : (rest : List ℕ) → record_of (66 ∷ rest) ≡ (balance_of (66 ∷ rest) >>= λ amount. Ok (Balance amount))
 balance_read rest = rw (stands_next [] 66 66 rest)
 
-worded_read : {l : ℕ} {make : Worded → Record} → WordedLetter l make → (rest : List ℕ) → record_of (l ∷ rest) ≡ and_then (behind_letter (l ∷ rest)) (λ w. Ok (make w))
+worded_read : {l : ℕ} {make : Worded → Record} → WordedLetter l make → (rest : List ℕ) → record_of (l ∷ rest) ≡ (behind_letter (l ∷ rest) >>= λ w. Ok (make w))
 worded_read payment rest = rw (stands_next [] 80 66 rest, stands_next [] 80 80 rest)
 worded_read charge rest = rw (stands_next [] 67 66 rest, stands_next [] 67 67 rest)
 worded_read return rest = rw (stands_next [] 82 66 rest, stands_next [] 82 82 rest)
@@ -67,10 +67,10 @@ amount_fails balance rest m e = rw (balance_read (59 ∷ rest), semicolon_read (
 amount_fails (worded {l} k) rest m e = rw (worded_read k (59 ∷ rest), semicolon_read (l ∷ []) rest, e)
 
 -- where both stand
-balance_behind : {a : List ℕ} {z : ℤ} (s : Spells a z) (rest : List ℕ) → Ended most_digits s.digits rest → record_of (66 ∷ 59 ∷ (a ++ rest)) ≡ and_then (cond (eqb (length (66 ∷ 59 ∷ a)) (length (66 ∷ 59 ∷ (a ++ rest)))) (Ok z) (Err (record { at = length (66 ∷ 59 ∷ a) }))) (λ amount. Ok (Balance amount))
+balance_behind : {a : List ℕ} {z : ℤ} (s : Spells a z) (rest : List ℕ) → Ended most_digits s.digits rest → record_of (66 ∷ 59 ∷ (a ++ rest)) ≡ ((if length (66 ∷ 59 ∷ a) == length (66 ∷ 59 ∷ (a ++ rest)) then Ok z else Err (record { at = length (66 ∷ 59 ∷ a) })) >>= λ amount. Ok (Balance amount))
 balance_behind {a} {z} s rest e = rw (balance_read (59 ∷ (a ++ rest)), semicolon_read (66 ∷ []) (a ++ rest), spelt_reads 66 a z s rest e)
 
-worded_behind : {l : ℕ} {make : Worded → Record} {a : List ℕ} {z : ℤ} → WordedLetter l make → (s : Spells a z) (rest : List ℕ) → Ended most_digits s.digits rest → record_of (l ∷ 59 ∷ (a ++ rest)) ≡ and_then (and_then (semicolon_at (l ∷ 59 ∷ (a ++ rest)) (length (l ∷ 59 ∷ a))) (λ start. Ok (record { amount = z; text = record { start = start; length = length (l ∷ 59 ∷ (a ++ rest)) - start } }))) (λ w. Ok (make w))
+worded_behind : {l : ℕ} {make : Worded → Record} {a : List ℕ} {z : ℤ} → WordedLetter l make → (s : Spells a z) (rest : List ℕ) → Ended most_digits s.digits rest → record_of (l ∷ 59 ∷ (a ++ rest)) ≡ (semicolon_at (l ∷ 59 ∷ (a ++ rest)) (length (l ∷ 59 ∷ a)) >>= (λ start. Ok (record { amount = z; text = record { start = start; length = length (l ∷ 59 ∷ (a ++ rest)) - start } })) >>= λ w. Ok (make w))
 worded_behind {l} {make} {a} {z} k s rest e = rw (worded_read k (59 ∷ (a ++ rest)), semicolon_read (l ∷ []) (a ++ rest), spelt_reads l a z s rest e)
 
 -- a lawful line is read as what it says

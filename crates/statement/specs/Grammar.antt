@@ -1,6 +1,5 @@
 -- What a line of a statement is, apart from how it is read, and the law that every line is read so.
 --   sign minus            a minus, or nothing
---   AllDigits ds         the bytes ds are digits
 --   Spells a z            a is an optional minus and 1 to 12 digits, and spells the amount z
 --   SaysBalance xs z     the line xs is B, a semicolon, and an amount that spells z
 --   SaysWorded l xs w    the line xs is the letter l, a semicolon, the amount of w, a semicolon, and the text of w
@@ -8,10 +7,8 @@
 --   Lawful xs             the line xs says some record
 --   Begins xs             xs can go on to a lawful line
 --   ReadRight xs         a lawful line is read as what it says; any other, up to the first byte with which no lawful line goes on
-use Rattle.std.specs.Prelude.{◌≡◌, ℕ, ◌+◌, ◌<◌, ◌≤◌, Bool, true, cond, List, [], ◌∷◌, ◌++◌, length, take, ℤ, Ok, Err}
-use Rattle.std.specs.Char.{is_ascii_digit}
-use Rattle.std.specs.List.{AllByRecursion}
-use Rattle.statement.specs.Amounts.{decimal, most_digits, signed}
+use Rattle.std.specs.Prelude.{◌≡◌, ℕ, ◌+◌, ◌<◌, ◌≤◌, Bool, if◌then◌else◌, List, [], ◌∷◌, ◌++◌, length, take, ℤ, Ok, Err}
+use Rattle.statement.specs.Amounts.{AllDigits, decimal, most_digits, signed}
 use Rattle.statement.specs.Records.{record_of}
 use Rattle.statement.specs.declared.malformed.Malformed.{Malformed}
 use Rattle.statement.specs.declared.record.Record.{Record}
@@ -19,10 +16,7 @@ use Rattle.statement.specs.declared.record.Record.TheVariants.{Balance, Payment,
 use Rattle.statement.specs.declared.record.Worded.{Worded}
 
 abbrev pub sign : Bool → List ℕ
-sign minus = cond minus (45 ∷ []) []
-
-abbrev pub AllDigits : List ℕ → Type 0
-AllDigits ds = AllByRecursion (λ b. is_ascii_digit b ≡ true) ds
+sign minus = if minus then 45 ∷ [] else []
 
 pub record Spells (a : List ℕ) (z : ℤ) : Type 0 where
   pub minus : Bool

@@ -1,5 +1,7 @@
-ghost use Rattle.std.specs.Prelude.{◌≡◌, ◌-◌, ◌<◌, ◌≤◌, length, take, drop};
-ghost use Rattle.statement.specs.Amounts.{amount_at, digit_count, decimal, digits_from, semicolon_at, stands_at};
+ghost use Rattle.std.specs.Char.{is_ascii_digit};
+ghost use Rattle.std.specs.List.{prefix_len};
+ghost use Rattle.std.specs.Prelude.{◌≡◌, ◌≤◌, length, pos};
+ghost use Rattle.statement.specs.Amounts.{AllDigits, amount_at, decimal, digits_from, leading_digits, most_digits, semicolon_at, stands_at};
 
 use crate::malformed::Malformed;
 
@@ -7,64 +9,65 @@ use crate::malformed::Malformed;
 const MOST_DIGITS: usize = 12;
 
 // An amount that was read out of a line.
-#[derive(Clone, Copy)]
+#[derive(Clone, Copy, PartialEq, Eq, Debug)]
 pub struct Amount {
     pub cents: i64,
     // The index behind its last digit.
     pub behind: usize,
 }
 
-// The digits from an index on, at most 12: how many there are, and the number that they spell.
-#[derive(Clone, Copy)]
-struct Digits {
-    count: usize,
-    value: u64,
+// How many digits bytes begin with.
+fn count_digits(bytes: &[u8]) -> usize
+    ensures { result ≡ prefix_len is_ascii_digit bytes.now }
+{
+    bytes.iter().take_while(|b| b.is_ascii_digit()).count()
 }
 
-fn read_digits(line: &[u8], from: usize) -> Digits
-    ensures count { result.count ≡ digit_count (drop from line.now) }
-    ensures within { result.count ≤ length line.now - from }
-    ensures small { result.value < 1000000000000 }
-    ensures value { result.value ≡ decimal (take result.count (drop from line.now)) }
+// The digits that bytes begin with, at most 12.
+#[tactic(auto, using(crate::proofs::DigitSteps::counted_digits))]
+fn leading_digits(bytes: &[u8]) -> &[u8]
+    ensures value { result.now ≡ leading_digits bytes.now }
+    ensures digits { AllDigits result.now }
+    ensures few { length result.now ≤ most_digits }
+    ensures within { length result.now ≤ length bytes.now }
 {
-    let most = line.len().saturating_sub(from).min(MOST_DIGITS);
-    let mut count = 0;
+    let front = bytes.get(..MOST_DIGITS).unwrap_or(bytes);
+    &front[..count_digits(front)]
+}
+
+// The number that digits spell.
+#[tactic(auto, using(crate::proofs::DigitSteps::digit_sums))]
+fn decimal(digits: &[u8]) -> i64
+    requires digits { AllDigits digits.now }
+    requires few { length digits.now ≤ most_digits }
+    ensures { result ≡ pos (decimal digits.now) }
+{
     let mut value = 0;
-    while count < most && line[from + count].is_ascii_digit() {
-        value = value * 10 + (line[from + count] - b'0') as u64;
-        count += 1;
+    for digit in digits {
+        value = value * 10 + i64::from(digit - b'0');
     }
-    Digits { count, value }
+    value
 }
 
 // Whether a byte stands at an index of the line.
 fn stands_at(line: &[u8], at: usize, byte: u8) -> bool
     ensures { result ≡ stands_at line.now at byte }
 {
-    at < line.len() && line[at] == byte
+    line.get(at) == Some(&byte)
 }
 
 // The amount whose digits begin at an index, behind a minus or not.
 fn parse_digits(line: &[u8], from: usize, minus: bool) -> Result<Amount, Malformed>
     ensures { result ≡ digits_from minus from line.now }
 {
-    let digits = read_digits(line, from);
-    if digits.count == 0 {
+    let digits = leading_digits(line.get(from..).unwrap_or_default());
+    if digits.is_empty() {
         return Err(Malformed { at: from });
     }
-    let behind = from + digits.count;
-    let value = digits.value as i64;
-    if minus {
-        Ok(Amount {
-            cents: -value,
-            behind,
-        })
-    } else {
-        Ok(Amount {
-            cents: value,
-            behind,
-        })
-    }
+    let value = decimal(digits);
+    let cents = if minus { -value } else { value };
+    let behind = from + digits.len();
+    Ok(Amount { cents, behind })
 }
 
 // The amount at an index of the line, or the index at which it goes wrong.

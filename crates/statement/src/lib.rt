@@ -3,3 +3,5 @@
 pub mod amount;
 pub mod malformed;
 pub mod record;
+#[cfg(test)]
+mod tests;

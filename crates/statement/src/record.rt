@@ -7,14 +7,14 @@ use crate::malformed::Malformed;
 use lines::line::Line;
 
 // A part of a line.
-#[derive(Clone, Copy)]
+#[derive(Clone, Copy, PartialEq, Eq, Debug)]
 pub struct Part {
     pub start: usize,
     pub length: usize,
 }
 
 // An amount, a semicolon and a text, as payments and invoices have them.
-#[derive(Clone, Copy)]
+#[derive(Clone, Copy, PartialEq, Eq, Debug)]
 pub struct Worded {
     pub amount: i64,
     // Everything behind the semicolon, empty or not.
@@ -22,7 +22,7 @@ pub struct Worded {
 }
 
 // What a line of a statement says.
-#[derive(Clone, Copy)]
+#[derive(Clone, Copy, PartialEq, Eq, Debug)]
 pub enum Record {
     Balance(i64),
     Payment(Worded),
@@ -38,7 +38,7 @@ pub fn parse_worded(line: &[u8], at: usize) -> Result<Worded, Malformed>
     let start = parse_semicolon(line, amount.behind)?;
     let text = Part {
         start,
-        length: line.len().saturating_sub(start),
+        length: line.len() - start,
     };
     Ok(Worded {
         amount: amount.cents,
@@ -68,15 +68,16 @@ fn parse_behind_letter(line: &[u8]) -> Result<Worded, Malformed>
 }
 
 // What a line of a statement says: `B;amount`, or `P`, `C` or `R`, `;`, an amount, `;` and a text.
+#[tactic(auto, using(crate::proofs::GrammarLaw::reads_right))]
 pub fn parse_record(line: &[u8]) -> Result<Record, Malformed>
     ensures answer { result ≡ record_of line.now }
     ensures law { ReadRight line.now }
 {
     match line {
-        [b'B', ..] => Ok(Record::Balance(parse_balance(line)?)),
-        [b'P', ..] => Ok(Record::Payment(parse_behind_letter(line)?)),
-        [b'C', ..] => Ok(Record::Charge(parse_behind_letter(line)?)),
-        [b'R', ..] => Ok(Record::Return(parse_behind_letter(line)?)),
+        [b'B', ..] => parse_balance(line).map(Record::Balance),
+        [b'P', ..] => parse_behind_letter(line).map(Record::Payment),
+        [b'C', ..] => parse_behind_letter(line).map(Record::Charge),
+        [b'R', ..] => parse_behind_letter(line).map(Record::Return),
         _ => Err(Malformed { at: 0 }),
     }
 }
@@ -96,7 +97,6 @@ pub fn check_ended(line: Line, text: &[u8]) -> Result<(), Malformed>
 pub fn part_of(line: &[u8], part: Part) -> &[u8]
     ensures { result.now ≡ part_bytes line.now part }
 {
-    let start = part.start.min(line.len());
-    let length = part.length.min(line.len() - start);
-    &line[start..start + length]
+    let rest = line.get(part.start..).unwrap_or_default();
+    rest.get(..part.length).unwrap_or(rest)
 }
