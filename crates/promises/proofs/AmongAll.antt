@@ -2,9 +2,8 @@
 --   among_all c     the call among all calls
 --   heard a         the answer among all answers
 --   over s, ran r   the state and the run, as they stand for all calls
-use Rattle.std.proofs.Common.{◌≡◌, ℕ, ◌+◌, cond, List, [], ◌∷◌, map, Ok, Err, refl, ap, ◌∙◌, subst}
+use Rattle.std.proofs.Common.{◌≡◌, ℕ, ◌+◌, cond, List, [], ◌∷◌, map, Some, None, Ok, Err, refl, ap, ◌∙◌, subst}
 use Rattle.memory.specs.declared.fault.MemoryFault.{MemoryFault}
-use Rattle.reserve.specs.declared.room.Reclaim.TheVariants.{Yes, No}
 use Rattle.ledger.specs.BytesMut.{advance_call, capacity_call, extend_call, from_call, len_call, read_call, release_call, reserve_call, truncate_call, try_reclaim_call, with_capacity_call}
 use Rattle.ledger.specs.Opening.{open_call, tally_call}
 use Rattle.law.specs.Book as all_books
@@ -80,8 +79,8 @@ slid_heard (Ok n) = refl
 slid_heard (Err e) = refl
 
 reclaimed_heard : Heard calls.reclaimed all.reclaimed
-reclaimed_heard (Ok (Yes n)) = refl
-reclaimed_heard (Ok No) = refl
+reclaimed_heard (Ok (Some n)) = refl
+reclaimed_heard (Ok None) = refl
 reclaimed_heard (Err e) = refl
 
 released_heard : Heard calls.released all.released

@@ -5,13 +5,11 @@
 --   State           a ledger's table, and the bytes of the memory
 --   turn f s c      what the call c answers in the state s, and the state after it, where f are the memory's faults.
 --                   It is the definition that the call's own contract cites
-use Rattle.std.specs.Prelude.{ℕ, ◌≤◌, List, Ok, Err, Result}
+use Rattle.std.specs.Prelude.{ℕ, ◌≤◌, List, Some, None, Option, Ok, Err, Result}
 use Rattle.memory.specs.declared.fault.MemoryFault.{MemoryFault}
 use Rattle.faults.specs.declared.Fault.{Fault}
 use Rattle.table.specs.declared.table.Table.{Table}
 use Rattle.table.specs.declared.tally.Tally.{Tally}
-use Rattle.reserve.specs.declared.room.Reclaim.{Reclaim}
-use Rattle.reserve.specs.declared.room.Reclaim.TheVariants.{Yes, No}
 use Rattle.ledger.specs.BytesMut.{advance_call, capacity_call, extend_call, from_call, len_call, read_call, release_call, reserve_call, truncate_call, try_reclaim_call, with_capacity_call}
 use Rattle.ledger.specs.Opening.{open_call, tally_call}
 use Rattle.ledger.specs.declared.bytes_mut.BytesMut.{BytesMut}
@@ -79,9 +77,9 @@ abbrev pub slid : Result ℕ Fault → Answer
 slid (Ok n) = Slid n
 slid (Err e) = Refused e
 
-abbrev pub reclaimed : Result Reclaim Fault → Answer
-reclaimed (Ok (Yes n)) = Reclaimed n
-reclaimed (Ok No) = Unreclaimed
+abbrev pub reclaimed : Result (Option ℕ) Fault → Answer
+reclaimed (Ok (Some n)) = Reclaimed n
+reclaimed (Ok None) = Unreclaimed
 reclaimed (Err e) = Refused e
 
 abbrev pub released : Result Unit Returned → Answer
