@@ -1,4 +1,0 @@
-pub mod Book
-pub mod Calls
-pub mod Law
-pub mod Runs
