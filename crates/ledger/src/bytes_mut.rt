@@ -242,19 +242,20 @@ impl BytesMut {
     ) -> Result<Result<(), BytesMut>, Refused>
         ensures { (result, ledger.new.table.rows) ≡ try_unsplit_call ledger.old.table.rows self.now other }
     {
-        match known_both(&ledger.table.rows, self, &other) {
-            Ok((first, second)) => {
-                if unsplit::try_unsplit(&mut ledger.table.rows, first, second) {
-                    other.spent = true;
-                    Ok(Ok(()))
-                } else {
-                    Ok(Err(other))
-                }
+        let (first, second) = match known_both(&ledger.table.rows, self, &other) {
+            Ok(pair) => pair,
+            Err(fault) => {
+                return Err(Refused {
+                    fault,
+                    token: other,
+                });
             }
-            Err(fault) => Err(Refused {
-                fault,
-                token: other,
-            }),
+        };
+        if unsplit::try_unsplit(&mut ledger.table.rows, first, second) {
+            other.spent = true;
+            Ok(Ok(()))
+        } else {
+            Ok(Err(other))
         }
     }
 
@@ -269,11 +270,16 @@ impl BytesMut {
         ensures does { (result, ledger.new.table.rows, M.bytes mem.new) ≡ unsplit_call ledger.old.table.rows (M.bytes mem.old) (M.fault mem.old) (G.Growth.answer growth.now) self.now other }
         ensures faults { M.fault mem.new ≡ M.fault mem.old }
     {
-        let joined = match known_both(&ledger.table.rows, self, &other) {
-            Ok((first, second)) => unsplit::unsplit(&mut ledger.table, mem, growth, first, second),
-            Err(fault) => Err(fault),
+        let (first, second) = match known_both(&ledger.table.rows, self, &other) {
+            Ok(pair) => pair,
+            Err(fault) => {
+                return Err(Refused {
+                    fault,
+                    token: other,
+                });
+            }
         };
-        match joined {
+        match unsplit::unsplit(&mut ledger.table, mem, growth, first, second) {
             Ok(slid) => {
                 other.spent = true;
                 Ok(slid)
