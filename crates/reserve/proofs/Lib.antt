@@ -1,4 +1,3 @@
-pub mod FirstRule
 pub mod HandleFacts
 pub mod HandlesSound
 pub mod Reclaims

@@ -1,4 +1,3 @@
 pub mod Beside
-pub mod Counting
 pub mod JoinsSound
 pub mod SplitsSound

@@ -1,20 +1,13 @@
-use Rattle.std.proofs.Common.{sym, subst, arith}
-use Rattle.table.specs.Soundness.{Placed}
+use Rattle.std.proofs.Common.{sym, arith}
 use Rattle.table.proofs.SoundSingle.{sound_opens}
 use Rattle.reserve.proofs.HandleFacts.{copy_apart, room_found}
 use Rattle.reserve.proofs.room.grow.Goals as goal
 
-pub copy_bytes-requires : goal.copy_bytes-requires
-copy_bytes-requires g c =
+pub copy_bytes-requires-clause-apart : goal.copy_bytes-requires-clause-apart
+copy_bytes-requires-clause-apart g c =
     let t = c.args.table.now in
-    let h = c.args.seat.held.handle in
-    let b = c.args.seat.block in
-    let s = sound_opens t c.requires.sound in
-    let room = room_found t _ _ _ s (sym c.in_ok-place.ensures.answer) in
-    let last = (subst (Placed t.fixed t.limit) c.requires.over (s.placed h.block)).high in
-    let enough = g.met.G.Growth.enough c.args.growth.now b.size c.args.need in
-    record {
-      source = omega arith;
-      target = omega (arith, room.high);
-      apart = copy_apart t _ _ _ h.start h.len h.block b room c.requires.over c.args.seat.before c.args.seat.behind (omega arith) (omega arith);
-    }
+    let x = c.args.seat in
+    let h = x.held.handle in
+    let room = room_found t _ _ _ (sound_opens t c.requires.sound) (sym c.in_ok-place.ensures.answer) in
+    let enough = g.met.G.Growth.enough c.args.growth.now x.block.size c.args.need in
+    copy_apart t _ _ _ h.start h.len h.block x.block room c.requires.over x.before x.behind (omega arith) (omega arith)

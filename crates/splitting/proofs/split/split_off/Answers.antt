@@ -1,27 +1,10 @@
-use Rattle.std.proofs.Common.{◌<◌, sym, ap, ◌∙◌, subst, arith}
-use Rattle.reserve.proofs.HandlesSound.{over}
-use Rattle.rows.specs.Rows.{count_of}
+use Rattle.std.proofs.Common.{sym, ap, ◌∙◌, subst}
 use Rattle.table.proofs.Passing.{range_passed}
 use Rattle.table.proofs.SoundSingle.{sound_opens}
 use Rattle.table.specs.Soundness.{Sound}
-use Rattle.table.specs.Tables.{block_at}
-use Rattle.splitting.proofs.Counting.{one_more}
 use Rattle.splitting.proofs.SplitsSound.{cut_off_sound}
 use Rattle.splitting.specs.Splits.{cut_in_two, front}
 use Rattle.splitting.proofs.split.split_off.Goals as goal
-
-pub back-requires : goal.back-requires
-back-requires c =
-    let t = c.args.table.now.rows in
-    let h = c.args.held.handle in
-    let w = over t c.args.held.row h (sound_opens t c.args.table.now.sound) c.requires in
-    omega (arith, range_passed c.args.at h.capacity c.args.held.row (sym c.in_ok-check_range.ensures))
-
-pub cut_in_two-requires : goal.cut_in_two-requires
-cut_in_two-requires c =
-    let t = c.args.table.now.rows in
-    subst (λ h. count_of (block_at t h.block) < 255) (sym c.back.ensures)
-    (one_more t c.args.held.row c.args.held.handle c.in_ok-new.new c.args.table.now.sound c.requires (sym c.in_ok-new.ensures))
 
 pub invariant_of-table : goal.invariant_of-table
 invariant_of-table c =
