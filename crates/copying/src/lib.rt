@@ -17,6 +17,7 @@ pub fn store<M: Memory>(mem: &mut M, position: u32, byte: u8)
 }
 
 // Writes the slice from a position on.
+#[tactic(auto, using(std::proofs::lemmas::List::Edits::paste_none))]
 pub fn write_bytes<M: Memory>(mem: &mut M, at: u32, source: &[u8])
     requires { at + length source.now ≤ length (M.bytes mem.old) }
     ensures memory { M.bytes mem.new ≡ paste (M.bytes mem.old) at source.now (length source.now) }
@@ -28,6 +29,7 @@ pub fn write_bytes<M: Memory>(mem: &mut M, at: u32, source: &[u8])
 }
 
 // Copies a run of bytes to a run that begins no later, or behind it.
+#[tactic(auto, using(std::proofs::lemmas::List::Edits::paste_none))]
 pub fn copy_bytes<M: Memory>(mem: &mut M, from: u32, to: u32, count: u32)
     requires source { from + count ≤ length (M.bytes mem.old) }
     requires target { to + count ≤ length (M.bytes mem.old) }
@@ -42,6 +44,7 @@ pub fn copy_bytes<M: Memory>(mem: &mut M, from: u32, to: u32, count: u32)
 }
 
 // Fills the buffer with the bytes from a position on.
+#[tactic(auto, using(std::proofs::lemmas::List::take_more, std::proofs::lemmas::List::take_more_set))]
 pub fn read_into<M: Memory>(mem: &M, at: u32, out: &mut [u8])
     requires { at + length out.old ≤ length (M.bytes mem.now) }
     ensures { out.new ≡ take (length out.old) (drop at (M.bytes mem.now)) }

@@ -31,12 +31,7 @@ impl<M> Window<M> {
     pub fn into_below(self) -> M
         ensures { result ≡ self.below }
     {
-        let Window {
-            below,
-            start: _,
-            length: _,
-        } = self;
-        below
+        self.below
     }
 }
 
@@ -60,6 +55,7 @@ impl<M: Memory> Memory for Window<M> {
 
     ghost short = { λ w. window_short w.start w.length (M.Memory.bytes w.below) (M.Memory.short w.below) };
 
+    #[tactic(auto, using(crate::proofs::Windowed::length_window))]
     fn size(&self) -> u32 {
         self.below
             .size()

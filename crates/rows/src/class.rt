@@ -5,6 +5,7 @@ ghost use Rattle.std.specs.Prelude.{◌≡◌};
 const MOST: u32 = 7;
 
 // The class of a size: how many binary digits it has in units of 1,024, at most 7.
+#[tactic(auto, using(crate::proofs::BinaryDigits::digits_from_zeros))]
 pub fn class_of(size: u32) -> u8
     ensures { result ≡ class_of size }
 {

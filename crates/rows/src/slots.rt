@@ -18,6 +18,7 @@ pub fn row_at<R: Copy>(rows: &[R], row: u8, free: R) -> R
 }
 
 // Changes the row of a number; past the last it changes nothing.
+#[tactic(auto, using(std::proofs::lemmas::List::set_past))]
 pub fn set_row<R: Copy>(rows: &mut [R], row: u8, to: R)
     ensures { rows.new ≡ slice_set rows.old row to }
 {
@@ -28,6 +29,7 @@ pub fn set_row<R: Copy>(rows: &mut [R], row: u8, to: R)
 }
 
 // The free row of highest number: looks from the top and stops at the first.
+#[tactic(auto, using(crate::proofs::Highest::highest_there, crate::proofs::Highest::highest_lower))]
 pub fn highest_vacant<R: Slot>(rows: &[R]) -> Option<u8>
     requires { length rows.now ≤ 64 }
     ensures { result ≡ highest R.Slot.vacant rows.now }

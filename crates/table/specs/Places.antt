@@ -1,6 +1,7 @@
 -- Where a new block goes.
 --   meets p n r              whether n bytes from p on have a position in common with the block of a row
 --   clear p n rs             whether they have none in common with any block of the rows rs
+--   end_of r                 where the block of a row ends, if there is one
 --   fits_at limit rs p n     whether a block of n bytes fits at p, below the limit
 --   lower limit rs n best p  the lower of the best place so far and p, if p fits
 --   lowest_of limit rs n best ends   the lowest of the best place so far and the ends of the blocks in the last list
@@ -16,6 +17,10 @@ meets p n (Live b) = nat_lt 0 n && (nat_lt 0 b.size && (nat_lt p (b.place + b.si
 abbrev pub clear : ℕ → ℕ → List BlockRow → Bool
 clear p n [] = true
 clear p n (r ∷ rs) = if meets p n r then false else clear p n rs
+
+abbrev pub end_of : BlockRow → Option ℕ
+end_of Free = None
+end_of (Live b) = Some (b.place + b.size)
 
 abbrev pub fits_at : ℕ → List BlockRow → ℕ → ℕ → Bool
 fits_at limit rs p n = nat_le (p + n) limit && clear p n rs

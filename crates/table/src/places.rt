@@ -1,9 +1,10 @@
 // Where a new block goes.
 ghost use Rattle.std.specs.Prelude.{◌≡◌, ◌+◌, ◌^◌, ◌<◌};
 ghost use Rattle.table.specs.PlaceLaw.{LowestPlaces};
-ghost use Rattle.table.specs.Places.{clear, fits_at, lower, lowest_place, meets};
+ghost use Rattle.table.specs.Places.{clear, end_of, fits_at, lowest_place, meets};
 
 use rows::block::BlockRow;
+use std::iter;
 
 // Whether a block at a place would have a position in common with a live one.
 fn would_meet(place: u64, size: u64, row: BlockRow) -> bool
@@ -44,16 +45,15 @@ impl Search<'_> {
         let limit = self.limit as u64;
         place <= limit && self.size <= limit - place && self.is_clear(place)
     }
+}
 
-    // The lower of the best place so far and a candidate, if the candidate fits.
-    fn lower(&self, best: Option<u64>, place: u64) -> Option<u64>
-        ensures { result ≡ lower self.now.limit self.now.rows.now self.now.size best place }
-    {
-        if best.is_none_or(|other| place < other) && self.fits_at(place) {
-            Some(place)
-        } else {
-            best
-        }
+// Where the block of a row ends.
+fn end_of(row: &BlockRow) -> Option<u64>
+    ensures { result ≡ end_of row.now }
+{
+    match row {
+        BlockRow::Free => None,
+        BlockRow::Live(block) => Some(block.place as u64 + block.size as u64),
     }
 }
 
@@ -62,13 +62,10 @@ pub(crate) fn find_place(start: u32, limit: u32, rows: &[BlockRow; 32], size: u6
     ensures { result ≡ lowest_place start limit rows.now size }
 {
     let search = Search { limit, rows, size };
-    let mut best = search.lower(None, start as u64);
-    for row in rows {
-        if let BlockRow::Live(block) = row {
-            best = search.lower(best, block.place as u64 + block.size as u64);
-        }
-    }
-    best
+    iter::once(start as u64)
+        .chain(rows.iter().filter_map(end_of))
+        .filter(|place| search.fits_at(*place))
+        .min()
 }
 
 // A place is answered exactly where there is one, and it is the lowest.

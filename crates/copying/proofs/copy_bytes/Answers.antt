@@ -1,10 +1,7 @@
-use Rattle.std.proofs.Common.{◌+◌, length, drop, ap, inl, inr, ⊎_elim, arith, length-drop, length-set, get_or-drop, rules}
-use Rattle.std.proofs.lemmas.List.Edits.{paste_none, paste_more}
+use Rattle.std.proofs.Common.{◌+◌, length, drop, ap, inl, inr, ⊎_elim, arith, length-drop, length-set, get_or-drop}
+use Rattle.std.proofs.lemmas.List.Edits.{paste_more}
 use Rattle.copying.proofs.Pasting.{get_or_unwritten}
 use Rattle.copying.proofs.copy_bytes.Goals as goal
-
-pub loop-i-init : goal.loop-i-init
-loop-i-init g c = search (rules, paste_none)
 
 pub loop-i-preserved : goal.loop-i-preserved
 loop-i-preserved g c =

@@ -1,9 +1,6 @@
-use Rattle.std.proofs.Common.{length, ap, arith, length-set, rules}
-use Rattle.std.proofs.lemmas.List.Edits.{paste_none, paste_more}
+use Rattle.std.proofs.Common.{length, ap, arith, length-set}
+use Rattle.std.proofs.lemmas.List.Edits.{paste_more}
 use Rattle.copying.proofs.write_bytes.Goals as goal
-
-pub loop-i-init : goal.loop-i-init
-loop-i-init g c = search (rules, paste_none)
 
 pub loop-i-preserved : goal.loop-i-preserved
 loop-i-preserved g c =

@@ -1,20 +1,21 @@
-use Rattle.std.proofs.Common.{◌+◌, ◌∷◌, drop, sym, ap, ◌∙◌, arith}
-use Rattle.std.proofs.lemmas.List.{at_drop_more, at_drop_all}
-use Rattle.table.specs.Places.{lowest_of}
-use Rattle.rows.specs.declared.block.BlockRow.TheVariants.{Free}
+use Rattle.std.proofs.Common.{ℕ, Some, sym, ◌∙◌, rules, tests}
+use Rattle.std.proofs.lemmas.Iterator.{YieldsList-from_slice}
+use Rattle.std.proofs.lemmas.Iterator.Adapters.{YieldsList-from_once, option_map_id}
+use Rattle.std.proofs.lemmas.Iterator.Consumers.{YieldsList-from_chain, YieldsList-from_filter, YieldsList-from_filter_map, min_from_yields_List}
+use Rattle.table.specs.Places.{end_of, fits_at}
+use Rattle.table.proofs.LowestPlace.{least_fitting}
 use Rattle.table.proofs.places.find_place.Goals as goal
-use Rattle.table.proofs.places.find_place.Goals.{in-Live, in_default}
-
-pub loop-row-preserved : goal.loop-row-preserved
-loop-row-preserved c =
-    let rows = c.args.rows.now in
-    let from = lowest_of c.args.limit rows c.args.size c.loop-row.best in
-    let here = at_drop_more from rows c.loop-row.row-index Free (omega arith) in
-    elim c.match-row.branch [
-      | in-Live w ↦ let at = ap (λ r. from (r ∷ drop (c.loop-row.row-index + 1) rows)) w.in-Live.is in cc
-      | in_default w ↦ let at = ap (λ r. from (r ∷ drop (c.loop-row.row-index + 1) rows)) w.in_default.is in cc
-    ]
 
 pub returns : goal.returns
 returns c =
-    sym (at_drop_all (lowest_of c.args.limit c.args.rows.now c.args.size c.loop-row.best) c.args.rows.now c.loop-row.row-index (omega arith)) ∙ c.loop-row.invariant
+    let rows = c.args.rows.now in
+    let fits = λ (p : ℕ). fits_at c.args.limit rows p c.args.size in
+    sym (option_map_id c.min.result)
+    ∙ min_from_yields_List _ c.min.result c.min.ensures.ran
+    (YieldsList-from_filter _ fits
+    (YieldsList-from_chain
+    (YieldsList-from_once (Some c.args.start) cc)
+    (YieldsList-from_filter_map _ end_of (YieldsList-from_slice rows cc) c.filter_map.ensures.closure (λ x r q k. search (rules, tests)))
+    (cc) (cc))
+    c.filter.ensures.closure (λ x b q k. search (rules, tests)))
+    ∙ least_fitting c.args.limit rows c.args.size c.args.start
