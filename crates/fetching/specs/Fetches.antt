@@ -3,13 +3,12 @@
 --   StandsFirst bs i    the first line end of the bytes bs stands at the index i
 --   CutOff v line v'    v begins with the line and its end, and v' is what follows
 --   Fetched v o v'       what is shown goes from v to v' as o is fetched: a line that is cut off, or none where there is no end
-use Rattle.std.specs.Prelude.{◌≡◌, ℕ, ◌<◌, List, ◌∷◌, ◌++◌, length, take, Some, None, vec_items, Option, Vec, ◌≢◌, slice_index_or}
+use Rattle.std.specs.Prelude.{◌≡◌, All, ℕ, ◌<◌, List, ◌∷◌, ◌++◌, length, take, Some, None, vec_items, Option, Vec, ◌≢◌, slice_index_or}
 use Rattle.std.specs.declared.alloc.Global.{Global}
-use Rattle.std.specs.List.{AllByRecursion}
 use Rattle.lines.specs.Lines.{line_end}
 
 abbrev pub NoEnd : List ℕ → Type 0
-NoEnd bs = AllByRecursion (λ b. b ≢ line_end) bs
+NoEnd bs = All (λ b. b ≢ line_end) bs
 
 pub record StandsFirst (bs : List ℕ) (i : ℕ) : Type 0 where
   pub inside : i < length bs

@@ -12,19 +12,19 @@ use Rattle.matching.specs.Pairings.{entries_from, entries_of, invoices_after, ju
 use Rattle.matching.specs.declared.entry.Entry.{Entry}
 use Rattle.fetching.specs.declared.progress.Progress.{Progress}
 
-pub record Underway (xs ys : List ℕ) (p : Progress) (left : List ℕ) : Type 0 where
+pub record Underway {I : Type 0} (xs ys : List ℕ) (p : Progress I) (left : List ℕ) : Type 0 where
   pub behind : drop p.position xs ≡ left
-  pub entries : vec_items p.entries ++ entries_from xs ys (vec_len p.entries) (vec_items p.invoices) (lines_from p.position p.position left) ≡ entries_of xs ys
-  pub invoices : invoices_after xs ys (vec_len p.entries) (vec_items p.invoices) (lines_from p.position p.position left) ≡ settled_invoices xs ys
+  pub entries : vec_items p.entries ++ entries_from xs ys (vec_len p.entries) (vec_items p.open_items.invoices) (lines_from p.position p.position left) ≡ entries_of xs ys
+  pub invoices : invoices_after xs ys (vec_len p.entries) (vec_items p.open_items.invoices) (lines_from p.position p.position left) ≡ settled_invoices xs ys
 
-abbrev pub Carries : List ℕ → Progress → List ℕ → Progress → List ℕ → Type 0
+abbrev pub Carries : {I : Type 0} → List ℕ → Progress I → List ℕ → Progress I → List ℕ → Type 0
 Carries ys p v q w = (xs later : List ℕ) → Underway xs ys p (v ++ later) → Underway xs ys q (w ++ later)
 
-abbrev pub entry_of : List ℕ → Progress → Line → List ℕ → Entry
-entry_of ys p line text = record { line = line; outcome = (judged ys (vec_len p.entries) line text (vec_items p.invoices)).0 }
+abbrev pub entry_of : {I : Type 0} → List ℕ → Progress I → Line → List ℕ → Entry
+entry_of ys p line text = record { line = line; outcome = (judged ys (vec_len p.entries) line text (vec_items p.open_items.invoices)).0 }
 
-pub record Entered (ys : List ℕ) (p : Progress) (line : Line) (text : List ℕ) (q : Progress) : Type 0 where
+pub record Entered {I : Type 0} (ys : List ℕ) (p : Progress I) (line : Line) (text : List ℕ) (q : Progress I) : Type 0 where
   pub entries : vec_items q.entries ≡ vec_items p.entries ++ entry_of ys p line text ∷ []
   pub count : vec_len q.entries ≡ vec_len p.entries + 1
-  pub invoices : vec_items q.invoices ≡ (judged ys (vec_len p.entries) line text (vec_items p.invoices)).1
+  pub invoices : vec_items q.open_items.invoices ≡ (judged ys (vec_len p.entries) line text (vec_items p.open_items.invoices)).1
   pub position : q.position ≡ p.position

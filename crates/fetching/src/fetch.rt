@@ -6,11 +6,9 @@ ghost use Rattle.law.specs.Views.{view};
 use crate::stopped::Stopped;
 use ledger::bytes_mut::BytesMut;
 use ledger::ledger::Ledger;
+use lines::line::LINE_END;
 use memory::interface::Memory;
 use std::alloc::Global;
-
-// The byte that ends a line.
-const LINE_END: u8 = 10;
 
 // The bytes that the handle shows.
 pub fn read_shown<M: Memory>(
@@ -32,12 +30,7 @@ pub fn read_shown<M: Memory>(
 fn find_end(shown: &[u8]) -> Option<usize>
     ensures { MatchOption result (NoEnd shown.now) (λ end. StandsFirst shown.now end) }
 {
-    for (index, byte) in shown.iter().enumerate() {
-        if *byte == LINE_END {
-            return Some(index);
-        }
-    }
-    None
+    shown.iter().position(|byte| *byte == LINE_END)
 }
 
 // The first line that the handle shows, without its end: the handle is advanced past both. None, and nothing is done, where

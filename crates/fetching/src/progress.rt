@@ -8,18 +8,17 @@ use crate::stopped::Stopped;
 use lines::line::Line;
 use lines::span::Span;
 use matching::entry::{Entry, Report};
-use matching::invoice::{Invoice, read_invoices};
-use matching::pairing::judge;
+use matching::invoice::OpenItems;
 use memory::interface::Memory;
 use std::alloc::{AllocError, Global};
 
 // How far a statement has come that is reconciled line by line.
 #[derive(Drop)]
-pub struct Progress {
+pub struct Progress<'a, I> {
     // What became of the lines so far.
     pub entries: Vec<Entry>,
     // How the invoices stand then.
-    pub invoices: Vec<Invoice>,
+    pub open_items: OpenItems<'a, I>,
     // Where the next line begins.
     pub position: u32,
 }
@@ -40,53 +39,53 @@ fn line_at(position: u32, length: usize, ended: bool) -> Result<Line, Stopped>
     Ok(Line { span, ended })
 }
 
-impl Progress {
+impl<'a, I: Memory> Progress<'a, I> {
     // No line is passed yet.
-    pub fn new<I: Memory>(heap: Global, open_items: &I) -> Result<Progress, AllocError>
-        ensures { IfOk result (λ progress. ((xs : List ℕ) → Underway xs (I.bytes open_items.now) progress xs)) }
+    pub fn new(heap: Global, open_items: &'a I) -> Result<Progress<'a, I>, AllocError>
+        ensures memory { IfOk result (λ progress. progress.open_items.mem.now ≡ open_items.now) }
+        ensures begun { IfOk result (λ progress. ((xs : List ℕ) → Underway xs (I.bytes open_items.now) progress xs)) }
     {
-        let invoices = read_invoices(heap, open_items)?;
-        let entries = Vec::new(heap);
+        let open_items = OpenItems::read(heap, open_items)?;
         Ok(Progress {
-            entries,
-            invoices,
+            entries: Vec::new(heap),
+            open_items,
             position: 0,
         })
     }
 
     // Enters what becomes of the next line, which has this text.
-    fn enter<I: Memory>(&mut self, open_items: &I, line: Line, text: &[u8]) -> Result<(), Stopped>
-        ensures { OnOk result (Entered (I.bytes open_items.now) self.old line text.now self.new) }
+    fn enter(&mut self, line: Line, text: &[u8]) -> Result<(), Stopped>
+        ensures memory { self.new.open_items.mem.now ≡ self.old.open_items.mem.now }
+        ensures entered { OnOk result (Entered (I.bytes self.old.open_items.mem.now) self.old line text.now self.new) }
     {
         let index = self.entries.len();
-        let outcome = judge(index, line, text, &mut self.invoices, open_items);
+        let outcome = self.open_items.judge(index, line, text);
         self.entries.push(Entry { line, outcome })?;
         Ok(())
     }
 
     // Passes the next line, which has this text and an end.
-    pub fn pass<I: Memory>(&mut self, open_items: &I, text: &[u8]) -> Result<(), Stopped>
-        ensures { OnOk result ((NoEnd text.now → Carries (I.bytes open_items.now) self.old (text.now ++ line_end ∷ []) self.new [])) }
+    pub fn pass(&mut self, text: &[u8]) -> Result<(), Stopped>
+        ensures memory { self.new.open_items.mem.now ≡ self.old.open_items.mem.now }
+        ensures passed { OnOk result ((NoEnd text.now → Carries (I.bytes self.old.open_items.mem.now) self.old (text.now ++ line_end ∷ []) self.new [])) }
     {
         let line = line_at(self.position, text.len(), true)?;
-        self.enter(open_items, line, text)?;
+        self.enter(line, text)?;
         self.position = line.span.start + line.span.length + 1;
         Ok(())
     }
 
     // The report, where these bytes without an end are all that is left.
-    pub fn close<I: Memory>(mut self, open_items: &I, text: &[u8]) -> Result<Report, Stopped>
-        ensures { IfOk result (λ report. ((xs : List ℕ) → NoEnd text.now → Underway xs (I.bytes open_items.now) self text.now → (report.entries.items ≡ entries_of xs (I.bytes open_items.now)) × (report.invoices.items ≡ settled_invoices xs (I.bytes open_items.now)))) }
+    pub fn close(mut self, text: &[u8]) -> Result<Report, Stopped>
+        ensures { IfOk result (λ report. ((xs : List ℕ) → NoEnd text.now → Underway xs (I.bytes self.entry.open_items.mem.now) self.entry text.now → (report.entries.items ≡ entries_of xs (I.bytes self.entry.open_items.mem.now)) × (report.invoices.items ≡ settled_invoices xs (I.bytes self.entry.open_items.mem.now)))) }
     {
         if !text.is_empty() {
             let line = line_at(self.position, text.len(), false)?;
-            self.enter(open_items, line, text)?;
+            self.enter(line, text)?;
         }
-        let Progress {
-            entries,
-            invoices,
-            position: _,
-        } = self;
-        Ok(Report { entries, invoices })
+        Ok(Report {
+            entries: self.entries,
+            invoices: self.open_items.invoices,
+        })
     }
 }

@@ -32,15 +32,15 @@ fn pass_lines<M: Memory, I: Memory>(
     ledger: &mut Ledger,
     mem: &M,
     token: &BytesMut,
-    open_items: &I,
-    progress: &mut Progress,
+    progress: &mut Progress<I>,
 ) -> Result<(), Stopped>
-    ensures fetched { OnOk result (NoEnd (view ledger.new.table.rows (M.Memory.bytes mem.now) token.now)) }
-    ensures passed { OnOk result (Carries (I.Memory.bytes open_items.now) progress.old (view ledger.old.table.rows (M.Memory.bytes mem.now) token.now) progress.new (view ledger.new.table.rows (M.Memory.bytes mem.now) token.now)) }
+    ensures fetched { OnOk result (NoEnd (view ledger.new.table.rows (M.bytes mem.now) token.now)) }
+    ensures memory { progress.new.open_items.mem.now ≡ progress.old.open_items.mem.now }
+    ensures passed { OnOk result (Carries (I.bytes progress.old.open_items.mem.now) progress.old (view ledger.old.table.rows (M.bytes mem.now) token.now) progress.new (view ledger.new.table.rows (M.bytes mem.now) token.now)) }
     ensures known { Knows ledger.old.table.rows token.now → Knows ledger.new.table.rows token.now }
 {
     while let Some(text) = next_line(heap, ledger, mem, token)? {
-        progress.pass(open_items, text.as_slice())?;
+        progress.pass(text.as_slice())?;
     }
     Ok(())
 }
@@ -58,20 +58,20 @@ pub fn reconcile<M: Memory, G: Growth, I: Memory>(
     source: &[u8],
     open_items: &I,
 ) -> Result<Reconciliation, Stopped>
-    ensures entries { IfOk result (λ done. done.report.entries.items ≡ entries_of (view ledger.old.table.rows (M.Memory.bytes mem.old) token.now ++ source.now) (I.Memory.bytes open_items.now)) }
-    ensures invoices { IfOk result (λ done. done.report.invoices.items ≡ settled_invoices (view ledger.old.table.rows (M.Memory.bytes mem.old) token.now ++ source.now) (I.Memory.bytes open_items.now)) }
-    ensures law { IfOk result (λ done. Reconciled (view ledger.old.table.rows (M.Memory.bytes mem.old) token.now ++ source.now) (I.Memory.bytes open_items.now) done.report.entries.items done.report.invoices.items) }
+    ensures entries { IfOk result (λ done. done.report.entries.items ≡ entries_of (view ledger.old.table.rows (M.bytes mem.old) token.now ++ source.now) (I.bytes open_items.now)) }
+    ensures invoices { IfOk result (λ done. done.report.invoices.items ≡ settled_invoices (view ledger.old.table.rows (M.bytes mem.old) token.now ++ source.now) (I.bytes open_items.now)) }
+    ensures law { IfOk result (λ done. Reconciled (view ledger.old.table.rows (M.bytes mem.old) token.now ++ source.now) (I.bytes open_items.now) done.report.entries.items done.report.invoices.items) }
     ensures known { Knows ledger.old.table.rows token.now → Knows ledger.new.table.rows token.now }
 {
     let mut progress = Progress::new(heap, open_items)?;
     let mut slid: u64 = 0;
-    pass_lines(heap, ledger, mem, token, open_items, &mut progress)?;
+    pass_lines(heap, ledger, mem, token, &mut progress)?;
     for chunk in source.chunks(CHUNK) {
         let moved = token.extend_from_slice(ledger, mem, growth, chunk)?;
         slid = slid.saturating_add(moved as u64);
-        pass_lines(heap, ledger, mem, token, open_items, &mut progress)?;
+        pass_lines(heap, ledger, mem, token, &mut progress)?;
     }
     let left = read_shown(heap, ledger, mem, token)?;
-    let report = progress.close(open_items, left.as_slice())?;
+    let report = progress.close(left.as_slice())?;
     Ok(Reconciliation { report, slid })
 }

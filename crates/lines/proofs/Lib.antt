@@ -1,3 +1,2 @@
-pub mod LineLaws
-mod LineSteps
+mod LineLaws
 pub mod Spans

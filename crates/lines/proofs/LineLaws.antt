@@ -1,7 +1,7 @@
 -- The lines of a text are the text, cut behind each of its line ends.
-use Rattle.std.proofs.Common.{◌≡◌, ℕ, zero, suc, ◌+◌, ◌-◌, ◌<◌, ◌≤◌, true, false, eqb, ltb, List, [], ◌∷◌, ◌++◌, length, get_or, take, drop, sym, refl, ap, ◌∙◌, subst, arith, length-drop}
-use Rattle.std.specs.List.{flat_map, AllByRecursion as All}
-use Rattle.std.proofs.ByRecursion.{All-more}
+use Rattle.std.proofs.Common.{◌≡◌, All, ℕ, zero, suc, ◌+◌, ◌-◌, ◌<◌, ◌≤◌, true, false, eqb, ltb, List, [], ◌∷◌, ◌++◌, length, get_or, take, drop, sym, refl, ap, ◌∙◌, subst, arith, length-drop}
+use Rattle.std.specs.List.{flat_map}
+use Rattle.std.proofs.lemmas.List.Elements.{All-nil, All-cons, All-more}
 use Rattle.std.proofs.lemmas.List.{append-nil, append_assoc, take-append-drop, take_all, drop-drop, drop_more, drop_all, get_or-drop}
 use Rattle.std.proofs.lemmas.Bool.{cond_both, eqb-true, eqb-false, ltb-false}
 use Rattle.lines.specs.LineLaw.{CutIntoLines}
@@ -19,13 +19,13 @@ EndedButLast ls = (k : ℕ) (d : Line) → k + 1 < length ls → (get_or ls k d)
 
 inside_from : (n s p : ℕ) (xs : List ℕ) → s ≤ p → p + length xs ≡ n → All (Within n) (lines_from s p xs)
 inside_from n s p [] h e =
-    cond_both (ltb s p) (line s p false ∷ []) [] (All (Within n)) (λ _. (omega arith, tt)) (λ _. tt)
+    cond_both (ltb s p) (line s p false ∷ []) [] (All (Within n)) (λ _. All-cons (Within n) (line s p false) [] (omega arith) (All-nil (Within n))) (λ _. All-nil (Within n))
 inside_from n s p (x ∷ xs) h e =
     cond_both (eqb x line_end) (line s p true ∷ lines_from (p + 1) (p + 1) xs) (lines_from s (p + 1) xs) (All (Within n))
-    (λ _. (omega arith, inside_from n (p + 1) (p + 1) xs (omega arith) (omega arith)))
+    (λ _. All-cons (Within n) (line s p true) _ (omega arith) (inside_from n (p + 1) (p + 1) xs (omega arith) (omega arith)))
     (λ _. inside_from n s (p + 1) xs (omega arith) (omega arith))
 
-pub lines_inside : (xs : List ℕ) → All (λ l. l.span.start + l.span.length ≤ length xs) (lines_of xs)
+lines_inside : (xs : List ℕ) → All (λ l. l.span.start + l.span.length ≤ length xs) (lines_of xs)
 lines_inside xs = inside_from (length xs) 0 0 xs (omega arith) (omega arith)
 
 ended_more : (l : Line) (ls : List Line) → l.ended ≡ true → EndedButLast ls → EndedButLast (l ∷ ls)
@@ -63,15 +63,18 @@ module _ (t : List ℕ) (s p : ℕ) (h : s ≤ p) where
       subst (λ n. NoEnd (take n (drop s t))) (omega arith) more
 
 nothing_read : (t : List ℕ) (p : ℕ) → NoEnd (take (p - p) (drop p t))
-nothing_read t p = let none : p - p ≡ 0 = omega arith in rw none tt
+nothing_read t p = let none : p - p ≡ 0 = omega arith in rw none (All-nil (λ b. b ≡ line_end → ⊥))
 
 module _ (t : List ℕ) where
-  no_end_from : (s p : ℕ) (xs : List ℕ) → drop p t ≡ xs → s ≤ p → NoEnd (take (p - s) (drop s t)) → All (λ l. NoEnd (line_bytes t l)) (lines_from s p xs)
+  abbrev Whole : Line → Type 0
+  Whole l = NoEnd (line_bytes t l)
+
+  no_end_from : (s p : ℕ) (xs : List ℕ) → drop p t ≡ xs → s ≤ p → NoEnd (take (p - s) (drop s t)) → All Whole (lines_from s p xs)
   no_end_from s p [] e h k =
-      cond_both (ltb s p) (line s p false ∷ []) [] (All (λ l. NoEnd (line_bytes t l))) (λ _. (k, tt)) (λ _. tt)
+      cond_both (ltb s p) (line s p false ∷ []) [] (All Whole) (λ _. All-cons Whole (line s p false) [] k (All-nil Whole)) (λ _. All-nil Whole)
   no_end_from s p (x ∷ xs) e h k =
-      cond_both (eqb x line_end) (line s p true ∷ lines_from (p + 1) (p + 1) xs) (lines_from s (p + 1) xs) (All (λ l. NoEnd (line_bytes t l)))
-      (λ _. (k, no_end_from (p + 1) (p + 1) xs (rest_at t p x xs e) (omega arith) (nothing_read t (p + 1))))
+      cond_both (eqb x line_end) (line s p true ∷ lines_from (p + 1) (p + 1) xs) (lines_from s (p + 1) xs) (All Whole)
+      (λ _. All-cons Whole (line s p true) _ k (no_end_from (p + 1) (p + 1) xs (rest_at t p x xs e) (omega arith) (nothing_read t (p + 1))))
       (λ f. no_end_from s (p + 1) xs (rest_at t p x xs e) (omega arith) (no_end_more t s p h (before_end t p x xs e) (λ q. eqb-false x line_end f (sym (byte_at t p x xs e) ∙ q)) k))
 
   rejoined_from : (s p : ℕ) (xs : List ℕ) → drop p t ≡ xs → s ≤ p → p ≤ length t → flat_map (with_end t) (lines_from s p xs) ≡ drop s t
@@ -95,7 +98,7 @@ pub cut_into_lines : (xs : List ℕ) → CutIntoLines xs (lines_of xs)
 cut_into_lines xs =
     record {
       rejoined = rejoined_from xs 0 0 xs refl (omega arith) (omega arith);
-      no_end_inside = no_end_from xs 0 0 xs refl (omega arith) tt;
+      no_end_inside = no_end_from xs 0 0 xs refl (omega arith) (nothing_read xs 0);
       inside = lines_inside xs;
       only_last_unended = ended_from 0 0 xs;
     }

@@ -1,36 +1,29 @@
--- The bytes of a span, and when two lists of bytes are the same.
-use Rattle.std.proofs.Common.{◌≡◌, ℕ, ◌+◌, ◌-◌, ◌<◌, min, true, false, eqb, List, [], ◌∷◌, length, get_or, take, drop, sym, refl, ap, ◌∙◌, ⊎_elim, arith, length-drop, length-take, get_or-drop, take_all, get_or-take}
+-- The bytes of a span.
+use Rattle.std.proofs.Common.{◌≡◌, ℕ, zero, suc, ◌==◌, ◌&&◌, [], ◌∷◌, bytes_eq, zip, refl, ◌+◌, ◌-◌, ◌<◌, min, List, map, length, get_or, take, drop, sym, ap, ◌∙◌, ⊎_elim, arith, length-drop, length-take, get_or-drop, take_all, get_or-take}
+use Rattle.std.specs.List.{list_all, range_with_len}
 use Rattle.std.proofs.lemmas.List.{nil_from_length}
-use Rattle.std.proofs.lemmas.Bool.{eqb-true, eq-eqb, and_parts, and_from, cases_Bool, cases_lt}
-use Rattle.lines.specs.Spans.{span_bytes, same_bytes}
+use Rattle.std.proofs.lemmas.List.FromFn.{fill_by_all}
+use Rattle.std.proofs.lemmas.Bool.{cases_lt}
+use Rattle.lines.specs.Spans.{span_bytes}
 use Rattle.lines.specs.declared.span.Span.{Span}
 
 module _ (xs : List ℕ) (s : Span) where
   pub length_span : length (span_bytes xs s) ≡ min s.length (length xs - s.start)
   length_span = length-take s.length (drop s.start xs) ∙ ap (min s.length) (length-drop s.start xs)
 
-  pub get_or_span : (k : ℕ) → k < length (span_bytes xs s) → get_or (span_bytes xs s) k 0 ≡ get_or xs (s.start + k) 0
+  get_or_span : (k : ℕ) → k < length (span_bytes xs s) → get_or (span_bytes xs s) k 0 ≡ get_or xs (s.start + k) 0
   get_or_span k h = get_or-take s.length (drop s.start xs) k 0 (omega (arith, length_span)) ∙ get_or-drop s.start xs k 0
 
-pub same_from_equal : (xs ys : List ℕ) → xs ≡ ys → same_bytes xs ys ≡ true
-same_from_equal xs ys e = ap (same_bytes xs) (sym e) ∙ same_itself xs
-  where
-    same_itself : (zs : List ℕ) → same_bytes zs zs ≡ true
-    same_itself [] = refl
-    same_itself (z ∷ zs) = and_from (eqb z z) (same_bytes zs zs) (eq-eqb z z refl) (same_itself zs)
+  -- the bytes that are read at each offset
+  pub read_at_offsets : (n : ℕ) → n ≡ length (span_bytes xs s) → map (λ k. get_or xs (s.start + k) 0) (range_with_len 0 n) ≡ span_bytes xs s
+  read_at_offsets n count = sym (fill_by_all (λ k. get_or xs (s.start + k) 0) (span_bytes xs s) n 0 (sym count) (λ k h. get_or_span k (omega arith)))
 
-pub equal_from_same : (xs ys : List ℕ) → same_bytes xs ys ≡ true → xs ≡ ys
-equal_from_same [] [] e = refl
-equal_from_same [] (y ∷ ys) e = cc
-equal_from_same (x ∷ xs) [] e = cc
-equal_from_same (x ∷ xs) (y ∷ ys) e =
-    let k = and_parts (eqb x y) (same_bytes xs ys) e in
-    let head = eqb-true x y k.0 in
-    let tail = equal_from_same xs ys k.1 in
-    cc
-
-pub differ_from_unequal : (xs ys : List ℕ) → (xs ≡ ys → ⊥) → same_bytes xs ys ≡ false
-differ_from_unequal xs ys ne = ⊎_elim (λ e. absurd (ne (equal_from_same xs ys e))) (λ e. e) (cases_Bool (same_bytes xs ys))
+-- two lists of one length, compared index by index
+pub same_at_indices : (f : ℕ → ℕ) (a n : ℕ) (ys : List ℕ) → n ≡ length ys → list_all (λ p. f p.0 == p.1) (zip (range_with_len a n) ys) ≡ bytes_eq (map f (range_with_len a n)) ys
+same_at_indices f a zero [] e = refl
+same_at_indices f a zero (y ∷ ys) e = absurd (omega arith)
+same_at_indices f a (suc n) [] e = absurd (omega arith)
+same_at_indices f a (suc n) (y ∷ ys) e = ap (λ rest. (f a == y) && rest) (same_at_indices f (a + 1) n ys (omega arith))
 
 -- a part that is cut to what the list has
 module _ (xs : List ℕ) (s n i m : ℕ) (start : i ≡ min s (length xs)) (count : m ≡ min n (length xs - i)) where

@@ -1,6 +1,6 @@
 ghost use Rattle.lines.specs.LineLaw.{CutIntoLines};
-ghost use Rattle.lines.specs.Lines.{lines_of};
-ghost use Rattle.std.specs.Prelude.{◌≡◌, IfOk};
+ghost use Rattle.lines.specs.Lines.{line, lines_of};
+ghost use Rattle.std.specs.Prelude.{◌≡◌, ◌≤◌, IfOk};
 
 use crate::span::Span;
 use memory::access::byte_at;
@@ -8,15 +8,29 @@ use memory::interface::Memory;
 use std::alloc::{AllocError, Global};
 
 // The byte that ends a line.
-const LINE_END: u8 = 10;
+pub const LINE_END: u8 = b'\n';
 
 // A line of a text that stands in a memory.
-#[derive(Clone, Copy)]
+#[derive(Clone, Copy, PartialEq, Eq, Debug)]
 pub struct Line {
     // Its bytes, without its end.
     pub span: Span,
     // Whether a line end follows; false only for bytes behind the last one.
     pub ended: bool,
+}
+
+impl Line {
+    // The line from one position to another.
+    fn between(start: u32, end: u32, ended: bool) -> Line
+        requires { start ≤ end }
+        ensures { result ≡ line start end ended }
+    {
+        let length = end - start;
+        Line {
+            span: Span { start, length },
+            ended,
+        }
+    }
 }
 
 // All lines of the text, in their order.
@@ -29,16 +43,12 @@ pub fn find_lines<M: Memory>(heap: Global, mem: &M) -> Result<Vec<Line>, AllocEr
     let size = mem.size();
     for position in 0..size {
         if byte_at(mem, position) == LINE_END {
-            let length = position - start;
-            let span = Span { start, length };
-            lines.push(Line { span, ended: true })?;
+            lines.push(Line::between(start, position, true))?;
             start = position + 1;
         }
     }
     if start < size {
-        let length = size - start;
-        let span = Span { start, length };
-        lines.push(Line { span, ended: false })?;
+        lines.push(Line::between(start, size, false))?;
     }
     Ok(lines)
 }

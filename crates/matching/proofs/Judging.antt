@@ -1,30 +1,27 @@
 -- What one line does to the invoices.
-use Rattle.std.proofs.Common.{◌≡◌, ℕ, suc, ◌+◌, ◌<◌, true, ◌≢◌, List, [], ◌∷◌, length, get_or, set, ℤ, pos, negsuc, Some, None, Ok, Err, Option, Result, sym, refl, ap, ◌∙◌, subst, ⊎_elim, arith, get_or-set_other, get_or-set_same}
-use Rattle.std.proofs.lemmas.Bool.{and_parts, cases_Bool, cases_eq, cond-false, cond-true, eqb-true}
-use Rattle.lines.specs.Spans.{span_bytes, same_bytes}
+use Rattle.std.proofs.Common.{◌≡◌, ℕ, ◌<◌, true, ◌≢◌, bytes_eq, position, List, length, get_or, set, ℤ, Some, None, Ok, Err, Option, Result, sym, refl, ap, ◌∙◌, subst, ⊎_elim, get_or-set_other, get_or-set_same}
+use Rattle.std.specs.Ordering.{int_eq}
+use Rattle.std.proofs.lemmas.Bool.{and_parts, cases_eq}
+use Rattle.std.proofs.lemmas.Bool.Decides.{Decides-int_eq}
+use Rattle.std.proofs.lemmas.List.Quantifiers.{position-Some}
+use Rattle.std.proofs.lemmas.Slice.Eq.{bytes_eq-Decides}
+use Rattle.lines.specs.Spans.{span_bytes}
 use Rattle.statement.specs.Records.{part_bytes}
 use Rattle.statement.specs.declared.malformed.Malformed.{Malformed}
 use Rattle.statement.specs.declared.record.Record.{Record}
 use Rattle.statement.specs.declared.record.Record.TheVariants.{Balance, Payment, Charge, Return}
 use Rattle.statement.specs.declared.record.Worded.{Worded}
-use Rattle.lines.proofs.Spans.{equal_from_same}
 use Rattle.matching.specs.Invoices.{settled_by, unread}
-use Rattle.matching.specs.Pairings.{same_amount, asks_for, first_open, pairing, judgement, judged_as}
+use Rattle.matching.specs.Pairings.{asks_for, pairing, judgement, judged_as}
 use Rattle.matching.specs.declared.entry.Outcome.{Outcome}
 use Rattle.matching.specs.declared.entry.Outcome.TheVariants.{Paired, Unmatched, Unreadable}
 use Rattle.matching.specs.declared.invoice.Claim.{Claim}
 use Rattle.matching.specs.declared.invoice.Invoice.{Invoice}
 use Rattle.matching.specs.declared.invoice.Invoice.TheVariants.{Open, Settled, Unlawful}
 
-amounts_from_same : (a b : ℤ) → same_amount a b ≡ true → a ≡ b
-amounts_from_same (pos a) (pos b) e = ap pos (eqb-true a b e)
-amounts_from_same (pos a) (negsuc b) e = cc
-amounts_from_same (negsuc a) (pos b) e = cc
-amounts_from_same (negsuc a) (negsuc b) e = ap negsuc (eqb-true a b e)
-
 -- an open invoice is no settled one
 pub open_or_settled : {A : Type 0} {c d : Claim} {m : ℕ} → Open c ≡ Settled d m → A
-open_or_settled e = let z : ◌≡◌ {A = ℕ} 0 1 = cc in absurd (omega arith)
+open_or_settled e = absurd (cc)
 
 -- an invoice that asks for the amount from the payee
 record Asking (ys : List ℕ) (amount : ℤ) (payee : List ℕ) (i : Invoice) : Type 0 where
@@ -35,27 +32,15 @@ record Asking (ys : List ℕ) (amount : ℤ) (payee : List ℕ) (i : Invoice) : 
 
 asking : (ys : List ℕ) (amount : ℤ) (payee : List ℕ) (i : Invoice) → asks_for ys amount payee i ≡ true → Asking ys amount payee i
 asking ys amount payee (Open claim) e =
-    let k = and_parts (same_amount claim.amount amount) (same_bytes (span_bytes ys claim.payee) payee) e in
-    record { claim = claim; is_open = refl; amounts = amounts_from_same claim.amount amount k.0; payees = equal_from_same (span_bytes ys claim.payee) payee k.1 }
-asking ys amount payee (Settled claim line) e = let z : ◌≡◌ {A = ℕ} 0 1 = cc in absurd (omega arith)
-asking ys amount payee (Unlawful malformed) e = let z : ◌≡◌ {A = ℕ} 0 1 = cc in absurd (omega arith)
-
--- where the first open invoice was found
-record Found (ys : List ℕ) (amount : ℤ) (payee : List ℕ) (is : List Invoice) (j : ℕ) : Type 0 where
-  pub inside : j < length is
-  pub asks : asks_for ys amount payee (get_or is j unread) ≡ true
-
-found_at : (ys : List ℕ) (amount : ℤ) (payee : List ℕ) (k : ℕ) (is : List Invoice) (i : ℕ) → first_open ys amount payee k is ≡ Some i → (j : ℕ) × (i ≡ k + j) × Found ys amount payee is j
-found_at ys amount payee k [] i e = let z : ◌≡◌ {A = ℕ} 0 1 = cc in absurd (omega arith)
-found_at ys amount payee k (inv ∷ is) i e =
-    ⊎_elim
-    (λ yes.
-    let here : i ≡ k = cc (cond-true (asks_for ys amount payee inv) (Some k) (first_open ys amount payee (k + 1) is) yes) in
-    (0, omega arith, record { inside = omega arith; asks = yes }))
-    (λ no'.
-    let r = found_at ys amount payee (k + 1) is i (sym (cond-false (asks_for ys amount payee inv) (Some k) (first_open ys amount payee (k + 1) is) no') ∙ e) in
-    (suc r.0, omega (arith, r.1), record { inside = omega (arith, r.2.inside); asks = r.2.asks }))
-    (cases_Bool (asks_for ys amount payee inv))
+    let k = and_parts (int_eq claim.amount amount) (bytes_eq (span_bytes ys claim.payee) payee) e in
+    record {
+      claim = claim;
+      is_open = refl;
+      amounts = (Decides-int_eq claim.amount amount).0 k.0;
+      payees = (bytes_eq-Decides (span_bytes ys claim.payee) payee).0 k.1;
+    }
+asking ys amount payee (Settled claim line) e = absurd (cc)
+asking ys amount payee (Unlawful malformed) e = absurd (cc)
 
 -- a payment p on line k, with this text that was read as r, and invoice i: is are the invoices before and js those after
 pub record Pairs (ys : List ℕ) (k : ℕ) (text : List ℕ) (r : Result Record Malformed) (is js : List Invoice) (p : Worded) (i : ℕ) : Type 0 where
@@ -84,19 +69,17 @@ module _ (ys : List ℕ) (k : ℕ) (text : List ℕ) (is : List Invoice) where
   }
 
   -- a payment that is paired settles its invoice and leaves the others
-  module _ (p : Worded) (i : ℕ) (f : Found ys p.amount (part_bytes text p.text) is i) where
+  module _ (p : Worded) (i : ℕ) (inside : i < length is) (asks : asks_for ys p.amount (part_bytes text p.text) (get_or is i unread) ≡ true) where
     a : Asking ys p.amount (part_bytes text p.text) (get_or is i unread)
-    a = asking ys p.amount (part_bytes text p.text) (get_or is i unread) f.asks
+    a = asking ys p.amount (part_bytes text p.text) (get_or is i unread) asks
 
-    js : List Invoice
+    abbrev js : List Invoice
     js = set is i (settled_by k (get_or is i unread))
 
     at_invoice : get_or js i unread ≡ Settled a.claim k
-    unfolding js
-    at_invoice = get_or-set_same is i (settled_by k (get_or is i unread)) unread f.inside ∙ ap (settled_by k) a.is_open
+    at_invoice = get_or-set_same is i (settled_by k (get_or is i unread)) unread inside ∙ ap (settled_by k) a.is_open
 
     elsewhere : (j : ℕ) → j ≢ i → get_or js j unread ≡ get_or is j unread
-    unfolding js
     elsewhere j ne = get_or-set_other is i j (settled_by k (get_or is i unread)) unread ne
 
     itself : Pairs ys k text (Ok (Payment p)) is js p i
@@ -119,20 +102,16 @@ module _ (ys : List ℕ) (k : ℕ) (text : List ℕ) (is : List Invoice) where
           subst (λ (n : ℕ). Pairs ys k text (Ok (Payment p)) is js q n) invoice (subst (λ (w : Worded). Pairs ys k text (Ok (Payment p)) is js w i) payment itself);
     }
 
-  by_search : (p : Worded) (o : Option ℕ) → first_open ys p.amount (part_bytes text p.text) 0 is ≡ o → Step ys k text (Ok (Payment p)) is (pairing k p is o).0 (pairing k p is o).1
-  unfolding js
-  by_search p (Some i) e =
-      let r = found_at ys p.amount (part_bytes text p.text) 0 is i e in
-      let here : r.0 ≡ i = omega (arith, r.1) in
-      paired p i (subst (λ (j : ℕ). Found ys p.amount (part_bytes text p.text) is j) here r.2)
-  by_search p None e = logged (Ok (Payment p)) (Unmatched (Payment p)) (λ q i e. let z : ◌≡◌ {A = ℕ} 0 1 = cc in omega arith)
+  by_search : (p : Worded) (o : Option ℕ) → position (asks_for ys p.amount (part_bytes text p.text)) is ≡ o → Step ys k text (Ok (Payment p)) is (pairing k p is o).0 (pairing k p is o).1
+  by_search p (Some i) e = let found = position-Some (asks_for ys p.amount (part_bytes text p.text)) is i unread e in paired p i found.0 found.1
+  by_search p None e = logged (Ok (Payment p)) (Unmatched (Payment p)) (λ q i e. cc)
 
   by_record : (said : Record) → Step ys k text (Ok said) is (judgement ys k text is said).0 (judgement ys k text is said).1
-  by_record (Balance amount) = logged (Ok (Balance amount)) (Unmatched (Balance amount)) (λ p i e. let z : ◌≡◌ {A = ℕ} 0 1 = cc in omega arith)
-  by_record (Payment p) = by_search p (first_open ys p.amount (part_bytes text p.text) 0 is) refl
-  by_record (Charge w) = logged (Ok (Charge w)) (Unmatched (Charge w)) (λ p i e. let z : ◌≡◌ {A = ℕ} 0 1 = cc in omega arith)
-  by_record (Return w) = logged (Ok (Return w)) (Unmatched (Return w)) (λ p i e. let z : ◌≡◌ {A = ℕ} 0 1 = cc in omega arith)
+  by_record (Balance amount) = logged (Ok (Balance amount)) (Unmatched (Balance amount)) (λ p i e. cc)
+  by_record (Payment p) = by_search p (position (asks_for ys p.amount (part_bytes text p.text)) is) refl
+  by_record (Charge w) = logged (Ok (Charge w)) (Unmatched (Charge w)) (λ p i e. cc)
+  by_record (Return w) = logged (Ok (Return w)) (Unmatched (Return w)) (λ p i e. cc)
 
   pub step : (r : Result Record Malformed) → Step ys k text r is (judged_as ys k text is r).0 (judged_as ys k text is r).1
   step (Ok said) = by_record said
-  step (Err malformed) = logged (Err malformed) (Unreadable malformed) (λ p i e. let z : ◌≡◌ {A = ℕ} 0 1 = cc in omega arith)
+  step (Err malformed) = logged (Err malformed) (Unreadable malformed) (λ p i e. cc)

@@ -1,5 +1,2 @@
-mod FirstOpen
 mod Judging
-mod LineTexts
 pub mod Reconciling
-mod Turns

@@ -49,7 +49,7 @@ module _ (xs ys : List ℕ) where
     pub payees : span_bytes ys claim.payee ≡ part_bytes (line_bytes xs (get_or ls j no_line)) p.text
 
   paired_at : (k : ℕ) (is : List Invoice) (ls : List Line) (j i : ℕ) (p : Worded) → outcome_at (entries_from xs ys k is ls) j ≡ Paired p i → PairedAt k is ls j i p
-  paired_at k is [] j i p e = let z : ◌≡◌ {A = ℕ} 0 1 = cc in absurd (omega arith)
+  paired_at k is [] j i p e = absurd (cc)
   paired_at k is (l ∷ ls) zero i p e =
       let here = (turn k is l).pairs i p e in
       let last = stays_settled (k + 1) (judged ys k l (line_bytes xs l) is).1 ls i k here.claim here.after in

@@ -1,7 +1,5 @@
 -- Which invoice each payment is paired with, line by line. The invoices stand in the text ys, the statement in xs.
---   same_amount a b               whether two amounts are the same
 --   asks_for ys a payee i         whether the invoice i is open and asks for the amount a from this payee
---   first_open ys a payee k is    the index of the first such invoice, where is are the invoices from the index k on
 --   pairing k payment is found    a payment on line k and the invoices after it, where this invoice was found for it
 --   judgement ys k text is said   what becomes of line k, with this text, that says this record
 --   judged_as ys k text is r      the same for a line that was read as r
@@ -10,9 +8,10 @@
 --   invoices_after xs ys k is ls  the invoices after these lines
 --   entries_of xs ys              what becomes of every line of the statement
 --   settled_invoices xs ys        the invoices after the whole statement
-use Rattle.std.specs.Prelude.{ℕ, ◌+◌, Bool, false, cond, ◌&&◌, List, [], ◌∷◌, ℤ, pos, negsuc, Some, None, Ok, Err, Option, Result, ◌==◌, slice_index_or, slice_set}
+use Rattle.std.specs.Prelude.{ℕ, ◌+◌, Bool, false, ◌&&◌, List, [], ◌∷◌, ℤ, Some, None, Ok, Err, Option, Result, bytes_eq, position, slice_index_or, slice_set}
+use Rattle.std.specs.Ordering.{int_eq}
 use Rattle.lines.specs.Lines.{line_bytes, lines_of}
-use Rattle.lines.specs.Spans.{span_bytes, same_bytes}
+use Rattle.lines.specs.Spans.{span_bytes}
 use Rattle.statement.specs.Records.{ended_record, part_bytes}
 use Rattle.lines.specs.declared.line.Line.{Line}
 use Rattle.statement.specs.declared.malformed.Malformed.{Malformed}
@@ -26,20 +25,10 @@ use Rattle.matching.specs.declared.entry.Outcome.TheVariants.{Paired, Unmatched,
 use Rattle.matching.specs.declared.invoice.Invoice.{Invoice}
 use Rattle.matching.specs.declared.invoice.Invoice.TheVariants.{Open, Settled, Unlawful}
 
-abbrev pub same_amount : ℤ → ℤ → Bool
-same_amount (pos a) (pos b) = a == b
-same_amount (pos a) (negsuc b) = false
-same_amount (negsuc a) (pos b) = false
-same_amount (negsuc a) (negsuc b) = a == b
-
 abbrev pub asks_for : List ℕ → ℤ → List ℕ → Invoice → Bool
-asks_for ys amount payee (Open claim) = same_amount claim.amount amount && same_bytes (span_bytes ys claim.payee) payee
+asks_for ys amount payee (Open claim) = int_eq claim.amount amount && bytes_eq (span_bytes ys claim.payee) payee
 asks_for ys amount payee (Settled claim line) = false
 asks_for ys amount payee (Unlawful malformed) = false
-
-abbrev pub first_open : List ℕ → ℤ → List ℕ → ℕ → List Invoice → Option ℕ
-first_open ys amount payee k [] = None
-first_open ys amount payee k (i ∷ is) = cond (asks_for ys amount payee i) (Some k) (first_open ys amount payee (k + 1) is)
 
 abbrev pub pairing : ℕ → Worded → List Invoice → Option ℕ → Outcome × List Invoice
 pairing k payment is (Some i) = (Paired payment i, slice_set is i (settled_by k (slice_index_or is i unread)))
@@ -47,7 +36,7 @@ pairing k payment is None = (Unmatched (Payment payment), is)
 
 abbrev pub judgement : List ℕ → ℕ → List ℕ → List Invoice → Record → Outcome × List Invoice
 judgement ys k text is (Balance amount) = (Unmatched (Balance amount), is)
-judgement ys k text is (Payment payment) = pairing k payment is (first_open ys payment.amount (part_bytes text payment.text) 0 is)
+judgement ys k text is (Payment payment) = pairing k payment is (position (asks_for ys payment.amount (part_bytes text payment.text)) is)
 judgement ys k text is (Charge worded) = (Unmatched (Charge worded), is)
 judgement ys k text is (Return worded) = (Unmatched (Return worded), is)
 

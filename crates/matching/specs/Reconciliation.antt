@@ -11,7 +11,7 @@
 --     was_open             an invoice that is open in the end was open at first
 --     not_paired           and no line is paired with it
 --     still_open           an invoice that was open, and that no line is paired with, is open in the end
-use Rattle.std.specs.Prelude.{◌≡◌, ℕ, false, List, map, get_or, Ok, ◌≢◌, slice_index_or}
+use Rattle.std.specs.Prelude.{◌≡◌, ℕ, false, List, map, Ok, ◌≢◌, slice_index_or}
 use Rattle.lines.specs.Lines.{line_bytes, lines_of}
 use Rattle.lines.specs.Spans.{span_bytes}
 use Rattle.statement.specs.Records.{ended_record, part_bytes}
@@ -34,7 +34,7 @@ abbrev pub no_outcome : Outcome
 no_outcome = Unreadable (record { at = 0 })
 
 abbrev pub outcome_at : List Entry → ℕ → Outcome
-outcome_at es k = (get_or es k (record { line = no_line; outcome = no_outcome })).outcome
+outcome_at es k = (slice_index_or es k (record { line = no_line; outcome = no_outcome })).outcome
 
 abbrev pub line_at : List ℕ → ℕ → Line
 line_at xs k = slice_index_or (lines_of xs) k no_line
@@ -42,7 +42,7 @@ line_at xs k = slice_index_or (lines_of xs) k no_line
 pub record EqualPair (xs ys : List ℕ) (k : ℕ) (payment : Worded) (i : ℕ) : Type 0 where
   pub said : ended_record (line_at xs k) (line_bytes xs (line_at xs k)) ≡ Ok (Payment payment)
   pub claim : Claim
-  pub asked : get_or (invoices_of ys) i unread ≡ Open claim
+  pub asked : slice_index_or (invoices_of ys) i unread ≡ Open claim
   pub amounts : claim.amount ≡ payment.amount
   pub payees : span_bytes ys claim.payee ≡ part_bytes (line_bytes xs (line_at xs k)) payment.text
 

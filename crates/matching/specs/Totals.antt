@@ -1,5 +1,6 @@
 -- What the lines of a statement come to.
 --   plus t a         the total t with one line of the amount a more
+--   more_unmatched t a   the totals t with one line more that was logged, of the amount a
 --   logged t r       the totals t with one line more that was logged and says r
 --   added t o        the totals t with one line more, of which o became
 --   totals_of es     the totals of the entries es
@@ -18,18 +19,18 @@ abbrev pub plus : Total → ℤ → Total
 plus t a = record { lines = t.lines + 1; cents = t.cents +ℤ a }
 
 abbrev pub more_unmatched : Totals → ℤ → Totals
-more_unmatched t a = record { paired = t.paired; unmatched = plus t.unmatched a; balances = t.balances; unreadable = t.unreadable }
+more_unmatched t a = record t { unmatched = plus t.unmatched a }
 
 abbrev pub logged : Totals → Record → Totals
-logged t (Balance a) = record { paired = t.paired; unmatched = t.unmatched; balances = t.balances + 1; unreadable = t.unreadable }
+logged t (Balance a) = record t { balances = t.balances + 1 }
 logged t (Payment w) = more_unmatched t w.amount
 logged t (Charge w) = more_unmatched t w.amount
 logged t (Return w) = more_unmatched t w.amount
 
 abbrev pub added : Totals → Outcome → Totals
-added t (Paired payment i) = record { paired = plus t.paired payment.amount; unmatched = t.unmatched; balances = t.balances; unreadable = t.unreadable }
+added t (Paired payment i) = record t { paired = plus t.paired payment.amount }
 added t (Unmatched said) = logged t said
-added t (Unreadable malformed) = record { paired = t.paired; unmatched = t.unmatched; balances = t.balances; unreadable = t.unreadable + 1 }
+added t (Unreadable malformed) = record t { unreadable = t.unreadable + 1 }
 
 abbrev pub no_total : Total
 no_total = record { lines = 0; cents = pos 0 }

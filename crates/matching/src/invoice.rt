@@ -1,16 +1,16 @@
 ghost use Rattle.std.specs.Prelude.{◌≡◌, ◌+◌, ◌^◌, ◌<◌, ◌≤◌, length, IfOk};
 ghost use Rattle.matching.specs.Invoices.{invoice_of, invoices_of, settled_by};
-ghost use Rattle.statement.specs.Records.{if_ended, worded_at};
+ghost use Rattle.statement.specs.Records.{if_ended};
 
 use lines::line::{Line, find_lines};
-use lines::span::{Span, read_span};
+use lines::span::Span;
 use memory::interface::Memory;
 use statement::malformed::Malformed;
-use statement::record::{Worded, check_ended, parse_worded};
+use statement::record::{check_ended, parse_worded};
 use std::alloc::{AllocError, Global};
 
 // What an invoice asks for, and from whom.
-#[derive(Clone, Copy)]
+#[derive(Clone, Copy, PartialEq, Eq, Debug)]
 pub struct Claim {
     pub amount: i64,
     // Where the payee's name stands in the memory of the invoices.
@@ -33,18 +33,22 @@ impl Invoice {
     {
         match self {
             Invoice::Open(claim) => Invoice::Settled(claim, line),
-            Invoice::Settled(_, _) => self,
-            Invoice::Unlawful(_) => self,
+            Invoice::Settled(..) | Invoice::Unlawful(_) => self,
         }
     }
 }
 
-fn read_claim(line: Line, text: &[u8]) -> Result<Worded, Malformed>
-    ensures { result ≡ if_ended line text.now (worded_at text.now 0) }
+// What was read of a line with this text. Where the end of the line is missing, it goes wrong there.
+pub(crate) fn if_ended<T: Drop>(
+    line: Line,
+    text: &[u8],
+    read: Result<T, Malformed>,
+) -> Result<T, Malformed>
+    ensures { result ≡ if_ended line text.now read }
 {
-    let worded = parse_worded(text, 0)?;
+    let said = read?;
     check_ended(line, text)?;
-    Ok(worded)
+    Ok(said)
 }
 
 // `amount;payee`, from a line that stands in the memory with these bytes.
@@ -53,7 +57,7 @@ fn parse_invoice(line: Line, text: &[u8]) -> Invoice
     requires inside { line.span.start + line.span.length < 2 ^ 32 }
     ensures { result ≡ invoice_of line text.now }
 {
-    match read_claim(line, text) {
+    match if_ended(line, text, parse_worded(text, 0)) {
         Ok(worded) => {
             let start = line.span.start + worded.text.start as u32;
             let length = worded.text.length as u32;
@@ -66,15 +70,25 @@ fn parse_invoice(line: Line, text: &[u8]) -> Invoice
     }
 }
 
-// All invoices, in the order of their lines.
-pub fn read_invoices<M: Memory>(heap: Global, mem: &M) -> Result<Vec<Invoice>, AllocError>
-    ensures { IfOk result (λ invoices. invoices.items ≡ invoices_of (M.bytes mem.now)) }
-{
-    let mut invoices = Vec::new(heap);
-    let lines = find_lines(heap, mem)?;
-    for line in lines.iter() {
-        let text = read_span(heap, mem, line.span)?;
-        invoices.push(parse_invoice(*line, text.as_slice()))?;
+// The invoices of a memory, which holds their texts.
+#[derive(Drop)]
+pub struct OpenItems<'a, M> {
+    pub mem: &'a M,
+    // In the order of their lines.
+    pub invoices: Vec<Invoice>,
+}
+
+impl<'a, M: Memory> OpenItems<'a, M> {
+    pub fn read(heap: Global, mem: &'a M) -> Result<OpenItems<'a, M>, AllocError>
+        ensures memory { IfOk result (λ items. items.mem.now ≡ mem.now) }
+        ensures invoices { IfOk result (λ items. items.invoices.items ≡ invoices_of (M.bytes mem.now)) }
+    {
+        let mut invoices = Vec::new(heap);
+        let lines = find_lines(heap, mem)?;
+        for line in lines.iter() {
+            let text = line.span.read(heap, mem)?;
+            invoices.push(parse_invoice(*line, text.as_slice()))?;
+        }
+        Ok(OpenItems { mem, invoices })
     }
-    Ok(invoices)
 }

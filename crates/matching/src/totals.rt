@@ -5,14 +5,14 @@ use crate::entry::{Entry, Outcome};
 use statement::record::Record;
 
 // How many lines there are of a kind, and the sum of their amounts.
-#[derive(Clone, Copy)]
+#[derive(Clone, Copy, PartialEq, Eq, Debug, Default)]
 pub struct Total {
     pub lines: u64,
     pub cents: i128,
 }
 
 // What the lines of a statement come to.
-#[derive(Clone, Copy)]
+#[derive(Clone, Copy, PartialEq, Eq, Debug, Default)]
 pub struct Totals {
     pub paired: Total,
     // Payments, charges and returns that were logged.
@@ -43,28 +43,26 @@ impl Totals {
         ensures value { result ≡ added self outcome }
         ensures few { (n : ℕ) → Few n self → Few (n + 1) result }
     {
-        let mut totals = self;
         match outcome {
-            Outcome::Paired(payment, _) => {
-                totals.paired = self.paired.plus(payment.amount);
-            }
-            Outcome::Unmatched(Record::Balance(_)) => {
-                totals.balances = self.balances + 1;
-            }
-            Outcome::Unmatched(Record::Payment(worded)) => {
-                totals.unmatched = self.unmatched.plus(worded.amount);
-            }
-            Outcome::Unmatched(Record::Charge(worded)) => {
-                totals.unmatched = self.unmatched.plus(worded.amount);
-            }
-            Outcome::Unmatched(Record::Return(worded)) => {
-                totals.unmatched = self.unmatched.plus(worded.amount);
-            }
-            Outcome::Unreadable(_) => {
-                totals.unreadable = self.unreadable + 1;
-            }
+            Outcome::Paired(payment, _) => Totals {
+                paired: self.paired.plus(payment.amount),
+                ..self
+            },
+            Outcome::Unmatched(Record::Balance(_)) => Totals {
+                balances: self.balances + 1,
+                ..self
+            },
+            Outcome::Unmatched(
+                Record::Payment(worded) | Record::Charge(worded) | Record::Return(worded),
+            ) => Totals {
+                unmatched: self.unmatched.plus(worded.amount),
+                ..self
+            },
+            Outcome::Unreadable(_) => Totals {
+                unreadable: self.unreadable + 1,
+                ..self
+            },
         }
-        totals
     }
 }
 
@@ -72,13 +70,7 @@ impl Totals {
 pub fn add_up(entries: &[Entry]) -> Totals
     ensures { result ≡ totals_of entries.now }
 {
-    let none = Total { lines: 0, cents: 0 };
-    let mut totals = Totals {
-        paired: none,
-        unmatched: none,
-        balances: 0,
-        unreadable: 0,
-    };
+    let mut totals = Totals::default();
     for entry in entries {
         totals = totals.added(entry.outcome);
     }

@@ -1,5 +1,4 @@
 use crate::texts::{amount, quoted};
-use lines::span::read_span;
 use matching::entry::{Entry, Outcome, Report};
 use matching::invoice::{Claim, Invoice};
 use matching::totals::{Total, add_up};
@@ -27,7 +26,7 @@ fn log<S: Memory>(rt: &HostRuntime, statement: &S, entries: &[Entry]) -> io::Res
     println!(rt; "\nLogged\n line  position  length  kind             amount  text")?;
     for (index, entry) in entries.iter().enumerate() {
         let number = index.saturating_add(1);
-        let text = read_span(rt.alloc(), statement, entry.line.span)?;
+        let text = entry.line.span.read(rt.alloc(), statement)?;
         let start = entry.line.span.start;
         let length = entry.line.span.length;
         match entry.outcome {
@@ -88,7 +87,7 @@ fn claim<I: Memory>(
 ) -> io::Result<()> {
     let number = index.saturating_add(1);
     let cents = amount(rt.alloc(), claimed.amount as i128)?;
-    let payee = read_span(rt.alloc(), open_items, claimed.payee)?;
+    let payee = claimed.payee.read(rt.alloc(), open_items)?;
     let words = quoted(rt.alloc(), payee.as_slice())?;
     println!(rt; "{number:>7}  {cents:>12}  {words}")
 }

@@ -1,4 +1,4 @@
-use Rattle.std.proofs.Common.{ℕ, List, ◌++◌}
+use Rattle.std.proofs.Common.{◌≡◌, ℕ, List, ◌++◌}
 use Rattle.std.specs.Slice.Iter.{chunks_rest}
 use Rattle.fetching.specs.Fetches.{NoEnd}
 use Rattle.fetching.specs.Knowing.{Knows}
@@ -12,6 +12,9 @@ invariant-loop-chunk g l =
     let ys = g.I.Memory.bytes l.open_items in
     let shown = view l.ledger.table.rows (g.M.Memory.bytes l.mem) l.token in
     let first = view l.initial.ledger.table.rows (g.M.Memory.bytes l.initial.mem) l.token in
-    NoEnd shown
-    × ((xs : List ℕ) → Underway xs ys l.initial.progress (first ++ l.source) → Underway xs ys l.progress (shown ++ chunks_rest l.chunk-iterator))
-    × (Knows l.fn.ledger.table.rows l.token → Knows l.ledger.table.rows l.token)
+    record {
+      memory : l.progress.open_items.mem.now ≡ l.open_items;
+      no_end : NoEnd shown;
+      underway : (xs : List ℕ) → Underway xs ys l.initial.progress (first ++ l.source) → Underway xs ys l.progress (shown ++ chunks_rest l.chunk-iterator);
+      known : Knows l.fn.ledger.table.rows l.token → Knows l.ledger.table.rows l.token;
+    }

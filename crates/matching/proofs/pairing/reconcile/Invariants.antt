@@ -8,5 +8,9 @@ abbrev pub invariant-loop-index : goal.invariant-loop-index
 invariant-loop-index g l =
     let xs = g.S.Memory.bytes l.statement in
     let ys = g.I.Memory.bytes l.open_items in
-    (vec_items l.entries ++ entries_from xs ys l.index (vec_items l.invoices) (drop l.index (lines_of xs)) ≡ entries_of xs ys)
-    × (invoices_after xs ys l.index (vec_items l.invoices) (drop l.index (lines_of xs)) ≡ settled_invoices xs ys)
+    let is = vec_items l.items.invoices in
+    record {
+      memory : l.items.mem.now ≡ l.open_items;
+      entries : vec_items l.entries ++ entries_from xs ys l.index is (drop l.index (lines_of xs)) ≡ entries_of xs ys;
+      invoices : invoices_after xs ys l.index is (drop l.index (lines_of xs)) ≡ settled_invoices xs ys;
+    }

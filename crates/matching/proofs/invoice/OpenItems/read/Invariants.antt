@@ -1,7 +1,7 @@
 use Rattle.std.proofs.Common.{◌≡◌, map, take, vec_items}
 use Rattle.lines.specs.Lines.{line_bytes, lines_of}
 use Rattle.matching.specs.Invoices.{invoice_of}
-use Rattle.matching.proofs.invoice.read_invoices.Given as goal
+use Rattle.matching.proofs.invoice.OpenItems.read.Given as goal
 
 abbrev pub invariant-loop-line : goal.invariant-loop-line
 invariant-loop-line g l =
