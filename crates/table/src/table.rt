@@ -8,7 +8,7 @@ use rows::block::{Block, BlockRow};
 use rows::handle::HandleRow;
 use rows::slots::{highest_vacant, row_at, set_row};
 
-#[derive(Drop)]
+#[derive(Clone, Copy, PartialEq, Eq, Debug)]
 pub struct Table {
     pub number: u32,
     pub opened: bool,
