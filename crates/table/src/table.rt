@@ -7,7 +7,7 @@ use rows::block::{Block, BlockRow};
 use rows::handle::HandleRow;
 use rows::slots::{row_at, set_row};
 
-#[derive(Clone, PartialEq, Eq, Debug, Drop)]
+#[derive(Clone, Copy, PartialEq, Eq, Debug)]
 pub struct Table {
     pub number: u32,
     pub opened: bool,
