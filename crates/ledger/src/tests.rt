@@ -171,17 +171,27 @@ impl<'a, A: Abort> Fixture<'a, A> {
         self.call(|ledger, _| token.capacity(ledger))
     }
 
-    // The buffer as the call leaves it. A refused one leaves it as it was.
     fn read<const N: usize>(
         &mut self,
         row: u8,
         at: u64,
         before: [u8; N],
     ) -> Result<[u8; N], Fault> {
+        self.read_front(row, at, before, N)
+    }
+
+    // The buffer as a call leaves it that fills its first `count` bytes. A refused one leaves it as it was.
+    fn read_front<const N: usize>(
+        &mut self,
+        row: u8,
+        at: u64,
+        before: [u8; N],
+        count: usize,
+    ) -> Result<[u8; N], Fault> {
         let rt = self.rt;
         let mut out = before;
         let token = self.token(row);
-        let answer = self.call(|ledger, mem| token.read(ledger, mem, at, &mut out));
+        let answer = self.call(|ledger, mem| token.read(ledger, mem, at, &mut out[..count.min(N)]));
         if answer.is_err() {
             assert_eq!(rt; out, before);
         }

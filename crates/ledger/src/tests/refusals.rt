@@ -105,7 +105,8 @@ fn arguments_past_the_length_are_refused(rt: HostRuntime) {
     assert_eq!(rt; fixture.read(63, FAR, [9, 9]), Err(refused));
     assert_eq!(rt; fixture.read(63, FAR, [99]), Err(refused));
     assert_eq!(rt; fixture.read(63, 4, []), Err(refused));
-    assert_eq!(rt; fixture.read(63, 3, []), Ok([]));
+    assert_eq!(rt; fixture.read_front(63, 3, [99; 4], 0), Ok([99, 99, 99, 99]));
     assert_eq!(rt; fixture.read(63, 1, [9, 9]), Ok([22, 23]));
+    assert_eq!(rt; fixture.read_front(63, 1, [99; 4], 2), Ok([22, 23, 99, 99]));
     assert_eq!(rt; fixture.truncate(63, FAR), Ok(()));
 }
