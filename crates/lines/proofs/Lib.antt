@@ -1,2 +1,2 @@
 mod LineLaws
-pub mod Spans
+mod Spans
