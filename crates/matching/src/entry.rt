@@ -4,7 +4,7 @@ use statement::malformed::Malformed;
 use statement::record::{Record, Worded};
 
 // What became of a line of the statement: paired with an invoice, or logged.
-#[derive(Clone, Copy)]
+#[derive(Clone, Copy, PartialEq, Eq, Debug)]
 pub enum Outcome {
     // A payment, with the index of its invoice.
     Paired(Worded, usize),
@@ -14,14 +14,14 @@ pub enum Outcome {
 }
 
 // A line of the statement with what became of it.
-#[derive(Clone, Copy)]
+#[derive(Clone, Copy, PartialEq, Eq, Debug)]
 pub struct Entry {
     pub line: Line,
     pub outcome: Outcome,
 }
 
 // What became of every line of the statement, and how the invoices stand then.
-#[derive(Drop)]
+#[derive(Drop, Debug)]
 pub struct Report {
     pub entries: Vec<Entry>,
     pub invoices: Vec<Invoice>,

@@ -18,7 +18,7 @@ pub struct Claim {
 }
 
 // A line of the invoices.
-#[derive(Clone, Copy)]
+#[derive(Clone, Copy, PartialEq, Eq, Debug)]
 pub enum Invoice {
     Open(Claim),
     // Paired with the statement line of this index.
