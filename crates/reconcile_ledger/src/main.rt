@@ -1,21 +1,22 @@
 // Pairs the payments of a bank statement, read from standard input, with the open invoices of a file, and prints the log.
 #![tactic(auto)]
 
-mod show;
-mod texts;
+mod held;
 
 ghost use Rattle.fetching.specs.Knowing.{Knows};
 ghost use Rattle.std.specs.Prelude.{IfOk};
 
-use anyhow::anyhow;
-use fetching::reconciling::reconcile;
+use crate::held::Held;
+use anyhow::{Context, anyhow};
+use fetching::reconciling::{Reconciliation, reconcile};
 use fetching::stopped::Stopped;
 use growth::Doubling;
 use ledger::bytes_mut::BytesMut;
 use ledger::ledger::Ledger;
-use memory::interface::Memory;
 use memory::slice::SliceMemory;
 use memory::window::Window;
+use showing::shown::Shown;
+use std::alloc::{AllocError, Global};
 use std::io::Read;
 use std::{env, fs};
 use table::tally::Tally;
@@ -26,22 +27,9 @@ const ARENA: u32 = 65_536;
 // The capacity that the statement's handle begins with.
 const CAPACITY: u64 = 64;
 
-// What the file holds that the program's only argument names.
-fn read_invoices(rt: &HostRuntime) -> anyhow::Result<Vec<u8>> {
-    match env::args(rt)?.nth(1) {
-        Some(path) => Ok(fs::read(rt, path.as_str())?),
-        None => Err(anyhow!("usage: reconcile INVOICES < STATEMENT")),
-    }
-}
-
-fn read_statement(rt: &HostRuntime) -> anyhow::Result<Vec<u8>> {
-    let mut statement = Vec::new(rt.alloc());
-    rt.stdin().read_to_end(&mut statement)?;
-    Ok(statement)
-}
-
-fn zeros(rt: &HostRuntime) -> anyhow::Result<Vec<u8>> {
-    Ok(vec![in rt.alloc(); 0; ARENA as usize]?)
+// Apart from its caller, whose proof would otherwise write out each of the bytes.
+fn zeros(heap: Global) -> Result<Vec<u8>, AllocError> {
+    Ok(vec![in heap; 0; ARENA as usize]?)
 }
 
 // A handle that shows nothing, of a ledger that is opened for it.
@@ -52,59 +40,52 @@ fn open_handle(ledger: &mut Ledger) -> Result<BytesMut, Stopped>
     Ok(BytesMut::with_capacity(ledger, CAPACITY)?)
 }
 
-fn tally(ledger: &Ledger) -> Result<Tally, Stopped> {
-    Ok(ledger.tally()?)
-}
-
-// Reconciles the statement as it passes through the handle, and prints what came of it.
-fn report<M: Memory>(
-    rt: &HostRuntime,
-    ledger: &mut Ledger,
-    mem: &mut M,
-    token: &BytesMut,
+// What came of the statement as it passed through the handle of a ledger, and what the ledger held then. The ledger knows the
+// handle's token to the end, so the handle is released whatever came of the statement.
+fn reconcile_by_ledger(
+    heap: Global,
     statement: &[u8],
     invoices: &mut [u8],
-) -> anyhow::Result<()>
-    ensures { Knows ledger.old.table.rows token.now → Knows ledger.new.table.rows token.now }
-{
-    let growth = Doubling::default();
-    let open_items = SliceMemory::new(invoices);
-    let done = reconcile(
-        rt.alloc(),
-        ledger,
-        mem,
-        &growth,
-        token,
-        statement,
-        &open_items,
-    )?;
-    show::report(rt, statement, invoices, &done.report)?;
-    show::bytes(rt, done.slid, tally(ledger)?)?;
-    Ok(())
-}
-
-// The ledger knows the handle's token to the end, so the handle is released whatever came of the report.
-fn run(rt: &HostRuntime) -> anyhow::Result<()> {
-    let mut invoices = read_invoices(rt)?;
-    let statement = read_statement(rt)?;
-    let mut arena = zeros(rt)?;
+) -> anyhow::Result<(Reconciliation, Tally)> {
+    let mut arena = zeros(heap)?;
     let mut mem = Window::new(SliceMemory::new(arena.as_mut_slice()), 0, ARENA);
+    let open_items = SliceMemory::new(invoices);
+    let growth = Doubling::default();
     let mut ledger = Ledger::new();
     let token = open_handle(&mut ledger).map_err(|stopped| anyhow!("no handle: {stopped}"))?;
-    let done = report(
-        rt,
+    let done = reconcile(
+        heap,
         &mut ledger,
         &mut mem,
+        &growth,
         &token,
-        statement.as_slice(),
-        invoices.as_mut_slice(),
+        statement,
+        &open_items,
     );
-    match token.release(&mut ledger) {
-        Ok(()) => done,
-        Err(_) => unreachable!(),
-    }
+    let tally = ledger.tally();
+    token.release(&mut ledger).unwrap();
+    Ok((done?, tally.map_err(Stopped::from)?))
 }
 
 fn main(rt: HostRuntime) -> anyhow::Result<()> {
-    run(&rt)
+    let heap = rt.alloc();
+    let path = env::args(&rt)?
+        .nth(1)
+        .context("usage: reconcile INVOICES < STATEMENT")?;
+    let mut invoices = fs::read(&rt, path.as_str())?;
+    let mut statement = Vec::new(heap);
+    rt.stdin().read_to_end(&mut statement)?;
+    let (Reconciliation { report, slid }, tally) = reconcile_by_ledger(
+        heap,
+        statement.as_slice(),
+        invoices.as_mut_slice(),
+    )?;
+    let shown = Shown {
+        statement: statement.as_slice(),
+        invoices: invoices.as_slice(),
+        report: &report,
+    };
+    let held = Held { slid, tally };
+    print!(rt; "{shown}{held}")?;
+    Ok(())
 }
