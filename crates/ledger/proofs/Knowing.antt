@@ -1,10 +1,9 @@
 -- What a ledger that knows a token tells of its handle.
-use Rattle.std.proofs.Common.{◌≡◌, ℕ, Bool, true, false, cond, eqb, ◌≢◌, None, Ok, Err, Result, sym, refl, ap, ◌∙◌, subst}
+use Rattle.std.proofs.Common.{◌≡◌, ℕ, Bool, true, false, cond, eqb, ◌≢◌, None, Ok, Err, Result, refl, ap, ◌∙◌}
 use Rattle.std.proofs.lemmas.Bool.{eqb-false}
 use Rattle.std.specs.Option.{ok_or}
 use Rattle.table.proofs.Passing.{and_then_passed, refused_ok}
 use Rattle.table.specs.Checks.{and_then}
-use Rattle.table.specs.Soundness.{Sound}
 use Rattle.table.specs.Tables.{handle_at}
 use Rattle.faults.specs.declared.Fault.{Fault}
 use Rattle.faults.specs.declared.Fault.TheVariants.{SameRow, Shut, UnknownToken}
@@ -57,7 +56,3 @@ known_both t k o p e =
       two = eqb-false k.row o.row apart.0;
       opened = h.opened;
     }
-
--- a call on a known token leaves the table sound, where it does behind the checks
-pub sound_after : (t t' u : Table) → Sound t → t' ≡ u → (Sound t → Sound u) → ∥ Sound t' ∥₁
-sound_after t t' u s e keeps = ∣ subst Sound (sym e) (keeps s) ∣₁

@@ -141,16 +141,14 @@ module _ (t : Table) (m : List ℕ) (g : ℕ → ℕ → ℕ) (i : ℕ) (h : Wri
   pub room_enough : (room : Room) → (room_of t m g i h a).0 ≡ Ok room → Roomy (room_of t m g i h a).1 i h a room.handle
   room_enough room e = IfOk-at_ok (λ x. Roomy (room_of t m g i h a).1 i h a x.handle) e room_leaves.roomy
 
--- the rule that is carried out leaves a sound table
-pub rule_sound : (t : Table) (m : List ℕ) (g : ℕ → ℕ → ℕ) (i : ℕ) (h : WritableHandle) (b : Block) (a : ℕ) → Sound t → handle_at t i ≡ Writable h → ((size need : ℕ) → need ≤ g size need) → block_at t h.block ≡ Live b → (r : ReserveRule) → r ≡ rule_of h b a → (u : Table) → u ≡ (carried t m g i h b r).1 → ∥ Sound u ∥₁
-rule_sound t m g i h b a s is enough over r rule u made =
-    let on : b ≡ its_block t h = sym (ap block_in over) in
-    let room = subst (λ (c : Block). Sound (carried t m g i h c (rule_of h c a)).1) (sym on) (room_sound t m g i h a s is enough) in
-    ∣ subst Sound (sym made) (subst (λ (q : ReserveRule). Sound (carried t m g i h b q).1) (sym rule) room) ∣₁
+-- the rule that was chosen, carried out
+pub rule_sound : (t : Table) (m : List ℕ) (g : ℕ → ℕ → ℕ) (i : ℕ) (h : WritableHandle) (b : Block) (a : ℕ) (s : Sound t) → handle_at t i ≡ Writable h → ((size need : ℕ) → need ≤ g size need) → block_at t h.block ≡ Live b → (r : ReserveRule) → r ≡ rule_of h b a → Sound (carried t m g i h b r).1
+rule_sound t m g i h b a s is enough over r rule =
+    let room = subst (λ (c : Block). Sound (carried t m g i h c (rule_of h c a)).1) (ap block_in over) (room_sound t m g i h a s is enough) in
+    subst (λ (q : ReserveRule). Sound (carried t m g i h b q).1) (sym rule) room
 
 -- the same where no rule is carried out that takes a growth rule or a new block
-pub reclaimed_rule_sound : (t : Table) (m : List ℕ) (i : ℕ) (h : WritableHandle) (b : Block) (a : ℕ) → Sound t → handle_at t i ≡ Writable h → block_at t h.block ≡ Live b → (r : ReserveRule) → r ≡ rule_of h b a → (u : Table) → u ≡ (reclaimed t m i h b r).1 → ∥ Sound u ∥₁
-reclaimed_rule_sound t m i h b a s is over r rule u made =
-    let on : b ≡ its_block t h = sym (ap block_in over) in
-    let room = subst (λ (c : Block). Sound (reclaimed t m i h c (rule_of h c a)).1) (sym on) (reclaim_sound t m i h a s is) in
-    ∣ subst Sound (sym made) (subst (λ (q : ReserveRule). Sound (reclaimed t m i h b q).1) (sym rule) room) ∣₁
+pub reclaimed_rule_sound : (t : Table) (m : List ℕ) (i : ℕ) (h : WritableHandle) (b : Block) (a : ℕ) (s : Sound t) → handle_at t i ≡ Writable h → block_at t h.block ≡ Live b → (r : ReserveRule) → r ≡ rule_of h b a → Sound (reclaimed t m i h b r).1
+reclaimed_rule_sound t m i h b a s is over r rule =
+    let room = subst (λ (c : Block). Sound (reclaimed t m i h c (rule_of h c a)).1) (ap block_in over) (reclaim_sound t m i h a s is) in
+    subst (λ (q : ReserveRule). Sound (reclaimed t m i h b q).1) (sym rule) room

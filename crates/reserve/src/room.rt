@@ -113,12 +113,7 @@ fn grow<M: Memory, G: Growth>(
 }
 
 // The bytes go to a new block of this size, which the handle then has to itself.
-fn move_out<M: Memory>(
-    table: &mut Table,
-    mem: &mut M,
-    seat: Seat,
-    size: u64,
-) -> Result<Room, Fault>
+fn move_out<M: Memory>(table: &mut Table, mem: &mut M, seat: Seat, size: u64) -> Result<Room, Fault>
     requires sound { ∥ Sound table.old ∥₁ }
     requires over { block_at table.old seat.held.handle.block ≡ block_row.Live seat.block }
     requires whole { table.old.limit ≤ length (M.bytes mem.old) }

@@ -100,7 +100,12 @@ fn append<M: Memory, G: Growth>(
 {
     let room = make_room(table, mem, growth, first, other.handle.len as u64)?;
     let handle = room.handle;
-    copy_bytes(mem, other.handle.start, handle.start + handle.len, other.handle.len);
+    copy_bytes(
+        mem,
+        other.handle.start,
+        handle.start + handle.len,
+        other.handle.len,
+    );
     let longer = WritableHandle {
         len: handle.len + other.handle.len,
         ..handle

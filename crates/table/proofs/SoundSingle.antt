@@ -1,5 +1,5 @@
 -- A table is sound in one way at most, so a struct may keep that under ∥ ∥₁ and get it back.
-use Rattle.std.proofs.Common.{◌≡◌, ℕ}
+use Rattle.std.proofs.Common.{◌≡◌, ℕ, sym, subst}
 use mathlib.Core.Bool.{Bool-set}
 use mathlib.Core.Logic.{∥∥₁_elim}
 use native.Mathlib.Bridge.{le_prop}
@@ -8,6 +8,7 @@ use std.HLevel.{⊥_prop}
 use Rattle.table.specs.Soundness.{Fits, Apart, Placed, Sound}
 use Rattle.rows.specs.declared.block.BlockRow.{BlockRow}
 use Rattle.rows.specs.declared.handle.HandleRow.{HandleRow}
+use Rattle.table.specs.declared.sound.SoundTable.{SoundTable}
 use Rattle.table.specs.declared.table.Table.{Table}
 
 fits_single : (fixed : ℕ) (h : HandleRow) (x : BlockRow) (a b : Fits fixed h x) → a ≡ b
@@ -49,3 +50,7 @@ sound_single t a b = λ i. record {
 
 pub sound_opens : (t : Table) → ∥ Sound t ∥₁ → Sound t
 sound_opens t s = ∥∥₁_elim s (sound_single t) (λ x. x)
+
+-- what a sound table has become is sound, where what was made of it is
+pub sound_after : (t : SoundTable) (after made : Table) → after ≡ made → (Sound t.rows → Sound made) → ∥ Sound after ∥₁
+sound_after t after made e keeps = ∣ subst Sound (sym e) (keeps (sound_opens t.rows t.sound)) ∣₁

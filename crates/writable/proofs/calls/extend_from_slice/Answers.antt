@@ -50,5 +50,7 @@ invariant_of-table g c =
     let after = c.make_room.new.table in
     let s = sound_opens t c.args.table.now.sound in
     let roomy = room_enough t m grown i h (length xs) s c.requires.held (g.met.G.Growth.enough c.args.growth.now) in
-    record { sound = ∣ subst Sound (sym c.set_handle.ensures) (extended_sound (Ok c.in_ok-room.room, after.rows, g.M.Memory.bytes c.make_room.new.mem) i h xs (sound_opens after.rows after.sound)
-      (subst (λ (r : Result Room Fault × Table × List ℕ). (room : Room) → r.0 ≡ Ok room → Roomy r.1 i h (length xs) room.handle) (sym c.in_ok-room.ensures.does) roomy)) ∣₁ }
+    record {
+      sound = ∣ subst Sound (sym c.set_handle.ensures) (extended_sound (Ok c.in_ok-room.room, after.rows, g.M.Memory.bytes c.make_room.new.mem) i h xs (sound_opens after.rows after.sound)
+          (subst (λ (r : Result Room Fault × Table × List ℕ). (room : Room) → r.0 ≡ Ok room → Roomy r.1 i h (length xs) room.handle) (sym c.in_ok-room.ensures.does) roomy)) ∣₁;
+    }

@@ -1,7 +1,6 @@
 use Rattle.std.proofs.Common.{ap}
-use Rattle.table.proofs.SoundSingle.{sound_opens}
+use Rattle.table.proofs.SoundSingle.{sound_after}
 use Rattle.splitting.proofs.JoinsSound.{try_unsplit_sound}
-use Rattle.ledger.proofs.Knowing.{sound_after}
 use Rattle.ledger.proofs.bytes_mut.BytesMut.try_unsplit.Goals as goal
 
 pub invariant_of-ledger : goal.invariant_of-ledger
@@ -10,4 +9,4 @@ invariant_of-ledger c =
     let x = c.in-Ok.pair.0 in
     let y = c.in-Ok.pair.1 in
     let k = c.in-Ok.ensures in
-    record { sound = sound_after t.rows _ _ (sound_opens t.rows t.sound) (ap (λ r. r.1) c.try_unsplit.ensures) (λ s. try_unsplit_sound t.rows x.row y.row x.handle y.handle s k.held k.other_held k.two) }
+    record { sound = sound_after t _ _ (ap (λ r. r.1) c.try_unsplit.ensures) (λ s. try_unsplit_sound t.rows x.row y.row x.handle y.handle s k.held k.other_held k.two) }
