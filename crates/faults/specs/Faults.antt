@@ -29,4 +29,4 @@ row_of (NoBlockRow row) = row
 row_of (NoPlace row size) = row
 
 abbrev pub fault_text : Fault → List ℕ
-fault_text f = codes "refused with " ++ decimal (number_of f) ++ codes ", row " ++ decimal (row_of f)
+fault_text f = codes "the ledger refuses with " ++ decimal (number_of f) ++ codes ", row " ++ decimal (row_of f)

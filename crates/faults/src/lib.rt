@@ -68,7 +68,11 @@ impl fmt::Display for Fault {
     ghost output = { λ fault. Some (fault_text fault) };
 
     fn fmt<W: fmt::Write>(&self, f: &mut fmt::Formatter<W>) -> fmt::Result {
-        write!(f, "refused with {}, row {}", self.number(), self.row())
+        write!(
+            f,
+            "the ledger refuses with {}, row {}",
+            self.number(), self.row()
+        )
     }
 }
 

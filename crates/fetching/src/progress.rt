@@ -6,7 +6,6 @@ ghost use Rattle.matching.specs.Pairings.{entries_of, settled_invoices};
 
 use crate::stopped::Stopped;
 use lines::line::Line;
-use lines::span::Span;
 use matching::entry::{Entry, Report};
 use matching::invoice::OpenItems;
 use memory::interface::Memory;
@@ -32,11 +31,7 @@ fn line_at(position: u32, length: usize, ended: bool) -> Result<Line, Stopped>
     if length >= room as usize {
         return Err(Stopped::TooLong);
     }
-    let span = Span {
-        start: position,
-        length: length as u32,
-    };
-    Ok(Line { span, ended })
+    Ok(Line::between(position, position + length as u32, ended))
 }
 
 impl<'a, I: Memory> Progress<'a, I> {

@@ -8,7 +8,7 @@ use std::fmt;
 use std::fmt::{Display, Formatter};
 
 // Why no more lines are fetched.
-#[derive(Clone, Copy, Debug)]
+#[derive(Clone, Copy, PartialEq, Eq, Debug)]
 pub enum Stopped {
     // A call on the ledger was refused.
     Refused(Fault),
@@ -45,11 +45,7 @@ impl<T: Drop> From<AllocFailed<T>> for Stopped {
 impl Display for Stopped {
     fn fmt<W: fmt::Write>(&self, f: &mut Formatter<W>) -> fmt::Result {
         match self {
-            Stopped::Refused(fault) => {
-                let number = fault.number();
-                let row = fault.row();
-                write!(f, "the ledger refuses with {number}, row {row}")
-            }
+            Stopped::Refused(fault) => fault.fmt(f),
             Stopped::OutOfMemory => f.write_str("out of memory"),
             Stopped::TooLong => f.write_str("the statement is too long"),
         }

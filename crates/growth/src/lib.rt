@@ -56,7 +56,7 @@ impl Growth for Doubling {
 }
 
 // The need itself.
-#[derive(Clone, Copy, Debug)]
+#[derive(Clone, Copy, PartialEq, Eq, Debug)]
 pub struct Exact;
 
 impl Growth for Exact {

@@ -5,7 +5,7 @@
 --   pair_check t k o      the handles of two tokens of different rows
 --   handed_back o r       what a call answers that took the token o: a refusal gives it back
 --   joining b o           what trying to join the handle of o answers: done, or the token where it declines
---   handle_found, handles_found   what was found of a token, or of two, without the rows
+--   handle_found, pair_found   what was found of a token, or of two, without the rows
 use Rattle.std.specs.Prelude.{ℕ, Bool, true, false, cond, List, Some, None, Ok, Err, Option, Result, ◌==◌}
 use Rattle.memory.specs.declared.fault.MemoryFault.{MemoryFault}
 use Rattle.std.specs.Option.{ok_or}
@@ -47,9 +47,9 @@ abbrev pub handle_found : Result Held Fault → Result WritableHandle Fault
 handle_found (Ok x) = Ok x.handle
 handle_found (Err e) = Err e
 
-abbrev pub handles_found : Result (Held × Held) Fault → Result (WritableHandle × WritableHandle) Fault
-handles_found (Ok p) = Ok (p.0.handle, p.1.handle)
-handles_found (Err e) = Err e
+abbrev pub pair_found : Result (Held × Held × BytesMut) Refused → Result (WritableHandle × WritableHandle) Fault
+pair_found (Ok p) = Ok (p.0.handle, p.1.handle)
+pair_found (Err r) = Err r.fault
 
 abbrev pub tokened : Table → Result ℕ Fault → Result BytesMut Fault
 tokened t (Ok i) = Ok (token_of t i)

@@ -1,8 +1,8 @@
 // Writable handles: the calls on BytesMut.
-ghost use Rattle.ledger.specs.BytesMut.{advance_call, capacity_call, extend_call, from_call, len_call, pair_check, handle_found, handles_found, read_call, release_call, reserve_call, split_call, split_off_call, split_to_call, token_of, truncate_call, try_reclaim_call, try_unsplit_call, unsplit_call, with_capacity_call, writable_check};
+ghost use Rattle.ledger.specs.BytesMut.{advance_call, capacity_call, extend_call, from_call, len_call, pair_check, handle_found, pair_found, read_call, release_call, reserve_call, split_call, split_off_call, split_to_call, token_of, truncate_call, try_reclaim_call, try_unsplit_call, unsplit_call, with_capacity_call, writable_check};
 ghost use Rattle.ledger.specs.Reclaims.{ReclaimsExactly};
 ghost use Rattle.rows.specs.declared.handle.HandleRow.TheVariants as handle_row;
-ghost use Rattle.std.specs.Prelude.{◌≡◌, ◌≢◌, true, IfOk};
+ghost use Rattle.std.specs.Prelude.{◌≡◌, ◌≢◌, true, IfErr, IfOk};
 ghost use Rattle.table.specs.Tables.{handle_at};
 
 use crate::ledger::Ledger;
@@ -54,20 +54,29 @@ fn known(table: &Table, token: &BytesMut) -> Result<Held, Fault>
     }
 }
 
-// The handles of two tokens that name different rows.
-fn known_both(table: &Table, token: &BytesMut, other: &BytesMut) -> Result<(Held, Held), Fault>
-    ensures answer { handles_found result ≡ pair_check table.now token.now other.now }
-    ensures rows { IfOk result (λ pair. (pair.0.row ≡ token.now.row) × (pair.1.row ≡ other.now.row)) }
+// The handles of two tokens that name different rows, and the second token, which a refusal gives back.
+fn known_both(
+    table: &Table,
+    token: &BytesMut,
+    other: BytesMut,
+) -> Result<(Held, Held, BytesMut), Refused>
+    ensures answer { pair_found result ≡ pair_check table.now token.now other }
+    ensures rows { IfOk result (λ pair. (pair.0.row ≡ token.now.row) × (pair.1.row ≡ other.row)) }
     ensures held { IfOk result (λ pair. handle_at table.now pair.0.row ≡ handle_row.Writable pair.0.handle) }
     ensures other_held { IfOk result (λ pair. handle_at table.now pair.1.row ≡ handle_row.Writable pair.1.handle) }
     ensures two { IfOk result (λ pair. pair.0.row ≢ pair.1.row) }
+    ensures given { IfOk result (λ pair. pair.2 ≡ other) }
+    ensures given_back { IfErr result (λ refused. refused.token ≡ other) }
 {
-    let first = known(table, token)?;
-    let second = known(table, other)?;
-    if first.row == second.row {
-        return Err(Fault::SameRow { row: first.row });
-    }
-    Ok((first, second))
+    let fault = match (known(table, token), known(table, &other)) {
+        (Ok(first), Ok(second)) if first.row != second.row => return Ok((first, second, other)),
+        (Ok(first), Ok(_)) => Fault::SameRow { row: first.row },
+        (Err(fault), _) | (_, Err(fault)) => fault,
+    };
+    Err(Refused {
+        fault,
+        token: other,
+    })
 }
 
 impl Ledger {
@@ -238,19 +247,11 @@ impl BytesMut {
     pub fn try_unsplit(
         &self,
         ledger: &mut Ledger,
-        mut other: BytesMut,
+        other: BytesMut,
     ) -> Result<Result<(), BytesMut>, Refused>
         ensures { (result, ledger.new.table.rows) ≡ try_unsplit_call ledger.old.table.rows self.now other }
     {
-        let (first, second) = match known_both(&ledger.table.rows, self, &other) {
-            Ok(pair) => pair,
-            Err(fault) => {
-                return Err(Refused {
-                    fault,
-                    token: other,
-                });
-            }
-        };
+        let (first, second, mut other) = known_both(&ledger.table.rows, self, other)?;
         if unsplit::try_unsplit(&mut ledger.table.rows, first, second) {
             other.spent = true;
             Ok(Ok(()))
@@ -265,20 +266,12 @@ impl BytesMut {
         ledger: &mut Ledger,
         mem: &mut M,
         growth: &G,
-        mut other: BytesMut,
+        other: BytesMut,
     ) -> Result<u32, Refused>
         ensures does { (result, ledger.new.table.rows, M.bytes mem.new) ≡ unsplit_call ledger.old.table.rows (M.bytes mem.old) (M.fault mem.old) (G.Growth.answer growth.now) self.now other }
         ensures faults { M.fault mem.new ≡ M.fault mem.old }
     {
-        let (first, second) = match known_both(&ledger.table.rows, self, &other) {
-            Ok(pair) => pair,
-            Err(fault) => {
-                return Err(Refused {
-                    fault,
-                    token: other,
-                });
-            }
-        };
+        let (first, second, mut other) = known_both(&ledger.table.rows, self, other)?;
         match unsplit::unsplit(&mut ledger.table, mem, growth, first, second) {
             Ok(slid) => {
                 other.spent = true;

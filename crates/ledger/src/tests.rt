@@ -86,11 +86,19 @@ struct Fixture<'a, A> {
     number: u32,
 }
 
+// A memory that reaches as far as a ledger with a limit of 32 does, and one that reaches further.
+const SIZES: [u32; 2] = [32, 4096];
+
+// An open ledger over a memory of this size.
+fn opened_over<A: Abort>(rt: &A, fixed: u64, limit: u64, size: u32) -> Fixture<'_, A> {
+    let mut fixture = Fixture::new(rt, size);
+    assert_eq!(rt; fixture.open(7, fixed, limit), Ok(()));
+    fixture
+}
+
 // An open ledger over a memory that reaches as far as it does.
 fn opened<A: Abort>(rt: &A, fixed: u64, limit: u32) -> Fixture<'_, A> {
-    let mut fixture = Fixture::new(rt, limit);
-    assert_eq!(rt; fixture.open(7, fixed, limit as u64), Ok(()));
-    fixture
+    opened_over(rt, fixed, limit as u64, limit)
 }
 
 // An open ledger whose handle in row 63 has 64 bytes, and shows these.

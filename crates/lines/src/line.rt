@@ -21,7 +21,7 @@ pub struct Line {
 
 impl Line {
     // The line from one position to another.
-    fn between(start: u32, end: u32, ended: bool) -> Line
+    pub fn between(start: u32, end: u32, ended: bool) -> Line
         requires { start ≤ end }
         ensures { result ≡ line start end ended }
     {

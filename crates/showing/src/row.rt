@@ -94,8 +94,8 @@ impl Display for Unsettled<'_> {
     fn fmt<W: fmt::Write>(&self, f: &mut Formatter<W>) -> fmt::Result {
         match *self {
             Unsettled::Open(invoice) => invoice.fmt(f),
-            Unsettled::Unreadable(number, Malformed { at }) => {
-                write!(f, "{number:>7}  unreadable, wrong at {at}")
+            Unsettled::Unreadable(number, malformed) => {
+                write!(f, "{number:>7}  unreadable, {malformed}")
             }
         }
     }

@@ -1,4 +1,5 @@
 ghost use Rattle.lines.specs.Spans.{span_bytes};
+ghost use Rattle.std.specs.Iterator.{IsFinite};
 ghost use Rattle.std.specs.Prelude.{◌≡◌};
 
 use crate::cents::Cents;
@@ -77,24 +78,36 @@ impl<'a> Shown<'a> {
     }
 }
 
+// A heading, and a row a line.
+fn write_rows<W: fmt::Write, R: Display + Drop, I: Iterator<Item = R> + Drop>(
+    f: &mut Formatter<W>,
+    heading: &str,
+    rows: I,
+) -> fmt::Result
+    requires can { I.can_next rows }
+    requires ends { IsFinite (I.remaining rows) }
+{
+    f.write_str(heading)?;
+    for row in rows {
+        writeln!(f, "{row}")?;
+    }
+    Ok(())
+}
+
 // The parts.
 impl Shown<'_> {
     fn write_log<W: fmt::Write>(&self, f: &mut Formatter<W>) -> fmt::Result {
-        f.write_str("\nLogged\n line  position  length  kind             amount  text\n")?;
+        let heading = "\nLogged\n line  position  length  kind             amount  text\n";
         let entries = (1..).zip(&self.report.entries);
-        for row in entries.filter_map(|(number, entry)| self.logged(number, entry)) {
-            writeln!(f, "{row}")?;
-        }
-        Ok(())
+        let rows = entries.filter_map(|(number, entry)| self.logged(number, entry));
+        write_rows(f, heading, rows)
     }
 
     fn write_pairs<W: fmt::Write>(&self, f: &mut Formatter<W>) -> fmt::Result {
-        f.write_str("\nPaired\n line  invoice        amount  payee\n")?;
+        let heading = "\nPaired\n line  invoice        amount  payee\n";
         let entries = (1..).zip(&self.report.entries);
-        for row in entries.filter_map(|(number, entry)| self.pair(number, entry)) {
-            writeln!(f, "{row}")?;
-        }
-        Ok(())
+        let rows = entries.filter_map(|(number, entry)| self.pair(number, entry));
+        write_rows(f, heading, rows)
     }
 
     fn write_totals<W: fmt::Write>(&self, f: &mut Formatter<W>) -> fmt::Result {
@@ -111,12 +124,10 @@ impl Shown<'_> {
     }
 
     fn write_unsettled<W: fmt::Write>(&self, f: &mut Formatter<W>) -> fmt::Result {
-        f.write_str("\nStill open\ninvoice        amount  payee\n")?;
+        let heading = "\nStill open\ninvoice        amount  payee\n";
         let invoices = (1..).zip(&self.report.invoices);
-        for row in invoices.filter_map(|(number, invoice)| self.unsettled(number, invoice)) {
-            writeln!(f, "{row}")?;
-        }
-        Ok(())
+        let rows = invoices.filter_map(|(number, invoice)| self.unsettled(number, invoice));
+        write_rows(f, heading, rows)
     }
 }
 

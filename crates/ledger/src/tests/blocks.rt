@@ -1,27 +1,29 @@
 // New handles, their blocks, and what is free again.
-use super::{FAR, count_up, opened};
+use super::{FAR, SIZES, count_up, opened, opened_over};
 use faults::Fault;
 use rows::class::class_of;
 use table::tally::Tally;
 
 #[test]
 fn the_working_part_holds_4096_bytes_and_no_more(rt: HostRuntime) {
-    let mut fixture = opened(&rt, 16, 4112);
-    assert_eq!(rt;
-        fixture.with_capacity(4097),
-        Err(Fault::NoPlace {
-            row: 64,
-            size: 4097,
-        })
-    );
-    assert_eq!(rt; fixture.with_capacity(4096), Ok(63));
-    assert_eq!(rt;
-        fixture.with_capacity(1),
-        Err(Fault::NoPlace { row: 64, size: 1 })
-    );
-    assert_eq!(rt; fixture.with_capacity(0), Ok(62));
-    assert_eq!(rt; fixture.capacity(63), Ok(4096));
-    assert_eq!(rt; fixture.capacity(62), Ok(0));
+    for size in SIZES {
+        let mut fixture = opened_over(&rt, 16, 4112, size);
+        assert_eq!(rt;
+            fixture.with_capacity(4097),
+            Err(Fault::NoPlace {
+                row: 64,
+                size: 4097,
+            })
+        );
+        assert_eq!(rt; fixture.with_capacity(4096), Ok(63));
+        assert_eq!(rt;
+            fixture.with_capacity(1),
+            Err(Fault::NoPlace { row: 64, size: 1 })
+        );
+        assert_eq!(rt; fixture.with_capacity(0), Ok(62));
+        assert_eq!(rt; fixture.capacity(63), Ok(4096));
+        assert_eq!(rt; fixture.capacity(62), Ok(0));
+    }
 }
 
 #[test]
@@ -33,39 +35,43 @@ fn classes_go_by_units_of_1024(rt: HostRuntime) {
 
 #[test]
 fn a_block_needs_one_of_32_rows(rt: HostRuntime) {
-    let mut fixture = opened(&rt, 4, 32);
-    for row in (32..64).rev() {
-        assert_eq!(rt; fixture.with_capacity(0), Ok(row));
+    for size in SIZES {
+        let mut fixture = opened_over(&rt, 4, 32, size);
+        for row in (32..64).rev() {
+            assert_eq!(rt; fixture.with_capacity(0), Ok(row));
+        }
+        let refused = Err(Fault::NoBlockRow { row: 64 });
+        assert_eq!(rt; fixture.with_capacity(100), refused);
+        assert_eq!(rt; fixture.from(&[1]), refused);
     }
-    let refused = Err(Fault::NoBlockRow { row: 64 });
-    assert_eq!(rt; fixture.with_capacity(100), refused);
-    assert_eq!(rt; fixture.from(&[1]), refused);
 }
 
 // What the growth rule answers, and a need over the working part.
 #[test]
 fn a_block_needs_a_place(rt: HostRuntime) {
-    let mut fixture = opened(&rt, 4, 32);
-    assert_eq!(rt; fixture.with_capacity(20), Ok(63));
-    for source in [[0; 9], count_up(1)] {
+    for size in SIZES {
+        let mut fixture = opened_over(&rt, 4, 32, size);
+        assert_eq!(rt; fixture.with_capacity(20), Ok(63));
+        for source in [[0; 9], count_up(1)] {
+            assert_eq!(rt;
+                fixture.from(&source),
+                Err(Fault::NoPlace { row: 64, size: 9 })
+            );
+        }
         assert_eq!(rt;
-            fixture.from(&source),
-            Err(Fault::NoPlace { row: 64, size: 9 })
+            fixture.reserve(63, 21),
+            Err(Fault::NoPlace { row: 63, size: 40 })
         );
-    }
-    assert_eq!(rt;
-        fixture.reserve(63, 21),
-        Err(Fault::NoPlace { row: 63, size: 40 })
-    );
-    assert_eq!(rt;
-        fixture.reserve(63, FAR),
-        Err(Fault::NoPlace { row: 63, size: FAR })
-    );
-    for source in [[0; 29], count_up(1)] {
         assert_eq!(rt;
-            fixture.extend(63, &source),
-            Err(Fault::NoPlace { row: 63, size: 29 })
+            fixture.reserve(63, FAR),
+            Err(Fault::NoPlace { row: 63, size: FAR })
         );
+        for source in [[0; 29], count_up(1)] {
+            assert_eq!(rt;
+                fixture.extend(63, &source),
+                Err(Fault::NoPlace { row: 63, size: 29 })
+            );
+        }
     }
 }
 

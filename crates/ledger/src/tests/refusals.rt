@@ -1,5 +1,5 @@
 // The refusals of each call.
-use super::{FAR, Fixture, opened};
+use super::{FAR, Fixture, SIZES, opened_over};
 use faults::Fault;
 use memory::fault::MemoryFault;
 use std::process::Abort;
@@ -17,8 +17,8 @@ fn a_ledger_opens_once(rt: HostRuntime) {
 // Every call on this row that takes the memory is refused with this fault.
 fn check_memory_calls<A: Abort>(fixture: &mut Fixture<'_, A>, row: u8, fault: Fault) {
     let rt = fixture.rt;
-    assert_eq!(rt; fixture.read(row, 0, []), Err(fault));
-    assert_eq!(rt; fixture.read(row, 0, [99]), Err(fault));
+    assert_eq!(rt; fixture.read_front(row, 0, [99; 4], 0), Err(fault));
+    assert_eq!(rt; fixture.read_front(row, 0, [99; 4], 1), Err(fault));
     assert_eq!(rt; fixture.read(row, 0, [9, 9]), Err(fault));
     for additional in [0, 1] {
         assert_eq!(rt; fixture.reserve(row, additional), Err(fault));
@@ -46,36 +46,42 @@ fn check_calls<A: Abort>(fixture: &mut Fixture<'_, A>, row: u8, fault: Fault) {
 
 #[test]
 fn a_shut_ledger_refuses(rt: HostRuntime) {
-    let mut fixture = Fixture::new(&rt, 32);
-    fixture.number = 0;
-    let refused = Fault::Shut { row: 64 };
-    assert_eq!(rt; fixture.tally(), Err(refused));
-    assert_eq!(rt; fixture.with_capacity(0), Err(refused));
-    assert_eq!(rt; fixture.from(&[1]), Err(refused));
-    check_calls(&mut fixture, 5, Fault::Shut { row: 5 });
+    for size in SIZES {
+        let mut fixture = Fixture::new(&rt, size);
+        fixture.number = 0;
+        let refused = Fault::Shut { row: 64 };
+        assert_eq!(rt; fixture.tally(), Err(refused));
+        assert_eq!(rt; fixture.with_capacity(0), Err(refused));
+        assert_eq!(rt; fixture.from(&[1]), Err(refused));
+        check_calls(&mut fixture, 5, Fault::Shut { row: 5 });
+    }
 }
 
 // Unknown are a free row and a row past the last.
 #[test]
 fn unknown_rows_are_refused(rt: HostRuntime) {
-    let mut fixture = opened(&rt, 4, 32);
-    for row in [63, 64, 255] {
-        check_calls(&mut fixture, row, Fault::UnknownToken { row });
-    }
-    assert_eq!(rt; fixture.with_capacity(8), Ok(63));
-    for row in [62, 64, 255] {
-        check_calls(&mut fixture, row, Fault::UnknownToken { row });
+    for size in SIZES {
+        let mut fixture = opened_over(&rt, 4, 32, size);
+        for row in [63, 64, 255] {
+            check_calls(&mut fixture, row, Fault::UnknownToken { row });
+        }
+        assert_eq!(rt; fixture.with_capacity(8), Ok(63));
+        for row in [62, 64, 255] {
+            check_calls(&mut fixture, row, Fault::UnknownToken { row });
+        }
     }
 }
 
 #[test]
 fn a_token_of_another_ledger_is_refused(rt: HostRuntime) {
-    let mut fixture = opened(&rt, 4, 32);
-    assert_eq!(rt; fixture.with_capacity(8), Ok(63));
-    fixture.number = 8;
-    let refused = Fault::UnknownToken { row: 63 };
-    assert_eq!(rt; fixture.extend(63, &[1]), Err(refused));
-    check_calls(&mut fixture, 63, refused);
+    for size in SIZES {
+        let mut fixture = opened_over(&rt, 4, 32, size);
+        assert_eq!(rt; fixture.with_capacity(8), Ok(63));
+        fixture.number = 8;
+        let refused = Fault::UnknownToken { row: 63 };
+        assert_eq!(rt; fixture.extend(63, &[1]), Err(refused));
+        check_calls(&mut fixture, 63, refused);
+    }
 }
 
 #[test]
@@ -96,17 +102,20 @@ fn a_memory_that_ends_too_soon_is_refused(rt: HostRuntime) {
 
 #[test]
 fn arguments_past_the_length_are_refused(rt: HostRuntime) {
-    let mut fixture = opened(&rt, 4, 32);
-    assert_eq!(rt; fixture.from(&[21, 22, 23]), Ok(63));
-    let refused = Fault::OutOfRange { row: 63 };
-    assert_eq!(rt; fixture.advance(63, 4), Err(refused));
-    assert_eq!(rt; fixture.advance(63, FAR), Err(refused));
-    assert_eq!(rt; fixture.read(63, 2, [9, 9]), Err(refused));
-    assert_eq!(rt; fixture.read(63, FAR, [9, 9]), Err(refused));
-    assert_eq!(rt; fixture.read(63, FAR, [99]), Err(refused));
-    assert_eq!(rt; fixture.read(63, 4, []), Err(refused));
-    assert_eq!(rt; fixture.read_front(63, 3, [99; 4], 0), Ok([99, 99, 99, 99]));
-    assert_eq!(rt; fixture.read(63, 1, [9, 9]), Ok([22, 23]));
-    assert_eq!(rt; fixture.read_front(63, 1, [99; 4], 2), Ok([22, 23, 99, 99]));
-    assert_eq!(rt; fixture.truncate(63, FAR), Ok(()));
+    for size in SIZES {
+        let mut fixture = opened_over(&rt, 4, 32, size);
+        assert_eq!(rt; fixture.from(&[21, 22, 23]), Ok(63));
+        let refused = Fault::OutOfRange { row: 63 };
+        assert_eq!(rt; fixture.advance(63, 4), Err(refused));
+        assert_eq!(rt; fixture.advance(63, FAR), Err(refused));
+        assert_eq!(rt; fixture.read(63, 2, [9, 9]), Err(refused));
+        assert_eq!(rt; fixture.read(63, FAR, [9, 9]), Err(refused));
+        assert_eq!(rt; fixture.read_front(63, 2, [99; 4], 2), Err(refused));
+        assert_eq!(rt; fixture.read_front(63, FAR, [99; 4], 1), Err(refused));
+        assert_eq!(rt; fixture.read_front(63, 4, [99; 4], 0), Err(refused));
+        assert_eq!(rt; fixture.read_front(63, 3, [99; 4], 0), Ok([99, 99, 99, 99]));
+        assert_eq!(rt; fixture.read(63, 1, [9, 9]), Ok([22, 23]));
+        assert_eq!(rt; fixture.read_front(63, 1, [99; 4], 2), Ok([22, 23, 99, 99]));
+        assert_eq!(rt; fixture.truncate(63, FAR), Ok(()));
+    }
 }

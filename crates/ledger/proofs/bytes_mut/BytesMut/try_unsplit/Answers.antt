@@ -6,7 +6,7 @@ use Rattle.ledger.proofs.bytes_mut.BytesMut.try_unsplit.Goals as goal
 pub invariant_of-ledger : goal.invariant_of-ledger
 invariant_of-ledger c =
     let t = c.args.ledger.now.table in
-    let x = c.in-Ok.pair.0 in
-    let y = c.in-Ok.pair.1 in
-    let k = c.in-Ok.ensures in
+    let x = c.in_ok-first.first in
+    let y = c.in_ok-first.second in
+    let k = c.in_ok-first.ensures in
     record { sound = sound_after t _ _ (ap (λ r. r.1) c.try_unsplit.ensures) (λ s. try_unsplit_sound t.rows x.row y.row x.handle y.handle s k.held k.other_held k.two) }
