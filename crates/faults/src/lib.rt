@@ -68,11 +68,9 @@ impl fmt::Display for Fault {
     ghost output = { λ fault. Some (fault_text fault) };
 
     fn fmt<W: fmt::Write>(&self, f: &mut fmt::Formatter<W>) -> fmt::Result {
-        write!(
-            f,
-            "the ledger refuses with {}, row {}",
-            self.number(), self.row()
-        )
+        let number = self.number();
+        let row = self.row();
+        write!(f, "the ledger refuses with {number}, row {row}")
     }
 }
 
