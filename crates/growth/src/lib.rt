@@ -20,7 +20,7 @@ pub trait Growth {
 }
 
 // The largest of twice the size, the need and a minimum.
-#[derive(Clone, Copy, Debug)]
+#[derive(Clone, Copy, PartialEq, Eq, Debug)]
 pub struct Doubling {
     minimum: u32,
     ghost small: { minimum < 2 ^ 32 },

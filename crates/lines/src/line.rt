@@ -1,6 +1,6 @@
 ghost use Rattle.lines.specs.LineLaw.{CutIntoLines};
 ghost use Rattle.lines.specs.Lines.{line, lines_of};
-ghost use Rattle.std.specs.Prelude.{◌≡◌, ◌≤◌, IfOk};
+ghost use Rattle.std.specs.Prelude.{◌≡◌, IfOk};
 
 use crate::span::Span;
 use memory::access::byte_at;
@@ -20,12 +20,11 @@ pub struct Line {
 }
 
 impl Line {
-    // The line from one position to another.
+    // The line from one position to another, without bytes if that comes first.
     pub fn between(start: u32, end: u32, ended: bool) -> Line
-        requires { start ≤ end }
         ensures { result ≡ line start end ended }
     {
-        let length = end - start;
+        let length = end.saturating_sub(start);
         Line {
             span: Span { start, length },
             ended,

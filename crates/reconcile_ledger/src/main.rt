@@ -1,12 +1,12 @@
 // Pairs the payments of a bank statement, read from standard input, with the open invoices of a file, and prints the log.
 #![tactic(auto)]
 
-mod held;
+mod holdings;
 
 ghost use Rattle.fetching.specs.Knowing.{Knows};
 ghost use Rattle.std.specs.Prelude.{IfOk};
 
-use crate::held::Held;
+use crate::holdings::Holdings;
 use anyhow::{Context, anyhow};
 use fetching::reconciling::{Reconciliation, reconcile};
 use fetching::stopped::Stopped;
@@ -85,7 +85,7 @@ fn main(rt: HostRuntime) -> anyhow::Result<()> {
         invoices: invoices.as_slice(),
         report: &report,
     };
-    let held = Held { slid, tally };
-    print!(rt; "{shown}{held}")?;
+    let holdings = Holdings { slid, tally };
+    print!(rt; "{shown}{holdings}")?;
     Ok(())
 }

@@ -4,12 +4,12 @@ use table::tally::Tally;
 
 // The bytes that slid, and what the ledger holds.
 #[derive(Clone, Copy)]
-pub struct Held {
+pub struct Holdings {
     pub slid: u64,
     pub tally: Tally,
 }
 
-impl Display for Held {
+impl Display for Holdings {
     fn fmt<W: fmt::Write>(&self, f: &mut Formatter<W>) -> fmt::Result {
         let slid = self.slid;
         let Tally {
