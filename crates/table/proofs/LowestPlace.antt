@@ -1,10 +1,9 @@
 -- The place that is answered for a new block has room, and no lower one has.
-use Rattle.std.proofs.Common.{◌≡◌, ℕ, zero, suc, ◌+◌, ◌≤◌, min, max, Bool, true, false, cond, ◌&&◌, leb, ltb, ◌⊎◌, List, [], ◌∷◌, get_or, Some, None, Option, sym, refl, ap, ◌∙◌, subst, inl, inr, ⊎_elim, arith}
-use Rattle.std.specs.List.{filter, filter_map, fold, reduce}
-use Rattle.std.proofs.lemmas.Bool.{and_from, and_parts, both_ways, cases_Bool, cases_eq, cases_lt, cond_both, cond-false, le-leb, le-ltb, leb-true, lt-ltb, ltb-false, ltb-true}
+use Rattle.std.proofs.Common.{◌≡◌, ℕ, zero, suc, ◌+◌, ◌≤◌, max, true, false, ◌&&◌, leb, ◌⊎◌, List, [], ◌∷◌, get_or, Some, None, Option, sym, refl, ◌∙◌, subst, inl, inr, ⊎_elim, arith}
+use Rattle.std.proofs.lemmas.Bool.{and_from, and_parts, both_ways, cases_Bool, cases_eq, cond_both, cond-false, le-leb, leb-true, ltb-false, ltb-true}
 use Rattle.std.proofs.lemmas.Bool.Decides.{nat_tests}
 use Rattle.table.specs.PlaceLaw.{LowestPlace, LowestPlaces, place_for}
-use Rattle.table.specs.Places.{clear, end_of, fits_at, lower, lowest_of, lowest_place, meets, sooner}
+use Rattle.table.specs.Places.{clear, fits_at, lower, lowest_of, lowest_place, meets, sooner}
 use Rattle.rows.specs.Rows.{block_free, place_of}
 use Rattle.table.specs.Soundness.{In, InBlock, RoomAt}
 use Rattle.table.specs.Tables.{block_at}
@@ -35,41 +34,6 @@ module _ (p n : ℕ) where
   -- a block that meets the n bytes from p on, but not those from p + 1 on, ends at p + 1
   meets_last : (b : Block) → meets p n (Live b) ≡ true → meets (suc p) n (Live b) ≡ false → suc p ≡ b.place + b.size
   meets_last b meet apart = grind (arith, nat_tests)
-
--- The place that is answered is the least that fits, of the start and the ends of the blocks.
-
--- the least of a list, and of the best so far
-abbrev least : Option ℕ → List ℕ → Option ℕ
-least None ps = reduce min ps
-least (Some q) ps = Some (fold min q ps)
-
-least_kept : (q p : ℕ) (fits : Bool) (ps : List ℕ) → least (Some q) (cond fits (p ∷ ps) ps) ≡ least (cond (ltb p q && fits) (Some p) (Some q)) ps
-least_kept q p false ps = elim (ltb p q) as (λ b. least (Some q) ps ≡ least (cond (b && false) (Some p) (Some q)) ps) [ true ↦ refl | false ↦ refl ]
-least_kept q p true ps =
-    ⊎_elim
-    (λ h. rw (lt-ltb p q h) (ap (λ m. Some (fold min m ps)) (omega arith)))
-    (λ h. rw (le-ltb p q h) (ap (λ m. Some (fold min m ps)) (omega arith)))
-    (cases_lt p q)
-
-module _ (limit : ℕ) (rs : List BlockRow) (n : ℕ) where
-  fitting : List ℕ → List ℕ
-  fitting = filter (λ p. fits_at limit rs p n)
-
-  least_next : (best : Option ℕ) (p : ℕ) (ps : List ℕ) → least best (fitting (p ∷ ps)) ≡ least (lower limit rs n best p) (fitting ps)
-  unfolding fitting
-  least_next None p ps = elim (fits_at limit rs p n) as (λ b. least None (cond b (p ∷ fitting ps) (fitting ps)) ≡ least (cond b (Some p) None) (fitting ps)) [ true ↦ refl | false ↦ refl ]
-  least_next (Some q) p ps = least_kept q p (fits_at limit rs p n) (fitting ps)
-
-  least_end : (best : Option ℕ) (ends : List BlockRow) → least best (fitting (filter_map end_of ends)) ≡ lowest_of limit rs n best ends
-  unfolding fitting
-  least_end None [] = refl
-  least_end (Some q) [] = refl
-  least_end best (Free ∷ ends) = least_end best ends
-  least_end best (Live b ∷ ends) = least_next best (b.place + b.size) (filter_map end_of ends) ∙ least_end (lower limit rs n best (b.place + b.size)) ends
-
-  pub least_fitting : (start : ℕ) → reduce min (filter (λ p. fits_at limit rs p n) (start ∷ filter_map end_of rs)) ≡ lowest_place start limit rs n
-  unfolding fitting
-  least_fitting start = least_next None start (filter_map end_of rs) ∙ least_end (lower limit rs n None start) rs
 
 -- q is the end of a live block
 abbrev End : ℕ → List BlockRow → Type 0

@@ -1,10 +1,9 @@
 // Where a new block goes.
 ghost use Rattle.std.specs.Prelude.{◌≡◌, ◌+◌, ◌^◌, ◌<◌};
 ghost use Rattle.table.specs.PlaceLaw.{LowestPlaces};
-ghost use Rattle.table.specs.Places.{clear, end_of, fits_at, lowest_place, meets};
+ghost use Rattle.table.specs.Places.{clear, end_of, fits_at, lower, lowest_place, meets};
 
 use rows::block::BlockRow;
-use std::iter;
 
 // Whether a block at a place would have a position in common with a live one.
 fn would_meet(place: u64, size: u64, row: BlockRow) -> bool
@@ -34,9 +33,12 @@ impl Search<'_> {
         requires { place + self.now.size < 2 ^ 64 }
         ensures { result ≡ clear place self.now.size self.now.rows.now }
     {
-        self.rows
-            .iter()
-            .all(|row| !would_meet(place, self.size, *row))
+        for row in self.rows {
+            if would_meet(place, self.size, *row) {
+                return false;
+            }
+        }
+        true
     }
 
     fn fits_at(&self, place: u64) -> bool
@@ -45,15 +47,27 @@ impl Search<'_> {
         let limit = self.limit as u64;
         place <= limit && self.size <= limit - place && self.is_clear(place)
     }
+
+    // The lower of the best place so far and a candidate, if the candidate fits. One that is no lower is not held against the rows.
+    fn lower(&self, best: Option<u64>, place: u64) -> Option<u64>
+        ensures { result ≡ lower self.now.limit self.now.rows.now self.now.size best place }
+    {
+        if best.is_none_or(|other| place < other) && self.fits_at(place) {
+            Some(place)
+        } else {
+            best
+        }
+    }
 }
 
 // Where the block of a row ends.
 fn end_of(row: &BlockRow) -> Option<u64>
     ensures { result ≡ end_of row.now }
 {
-    match row {
-        BlockRow::Free => None,
-        BlockRow::Live(block) => Some(block.place as u64 + block.size as u64),
+    if let BlockRow::Live(block) = row {
+        Some(block.place as u64 + block.size as u64)
+    } else {
+        None
     }
 }
 
@@ -62,10 +76,13 @@ pub(crate) fn find_place(start: u32, limit: u32, rows: &[BlockRow; 32], size: u6
     ensures { result ≡ lowest_place start limit rows.now size }
 {
     let search = Search { limit, rows, size };
-    iter::once(start as u64)
-        .chain(rows.iter().filter_map(end_of))
-        .filter(|place| search.fits_at(*place))
-        .min()
+    let mut best = search.lower(None, start as u64);
+    for row in rows {
+        if let Some(end) = end_of(row) {
+            best = search.lower(best, end);
+        }
+    }
+    best
 }
 
 // A place is answered exactly where there is one, and it is the lowest.

@@ -18,18 +18,24 @@ impl Table {
     pub fn tally(&self) -> Tally
         ensures { result ≡ tally_of self.now }
     {
-        let mut tally = Tally::default();
+        let mut live_handles = 0;
         for handle in &self.handles {
             if !handle.is_vacant() {
-                tally.handles += 1;
+                live_handles += 1;
             }
         }
+        let mut live_blocks = 0;
+        let mut bytes = 0;
         for row in &self.blocks {
             if let BlockRow::Live(block) = row {
-                tally.blocks += 1;
-                tally.bytes += block.size as u64;
+                live_blocks += 1;
+                bytes += block.size as u64;
             }
         }
-        tally
+        Tally {
+            handles: live_handles,
+            blocks: live_blocks,
+            bytes,
+        }
     }
 }
