@@ -19,41 +19,67 @@ fn asks<M: Memory>(invoice: Invoice, mem: &M, payment: Worded, payee: &[u8]) -> 
     }
 }
 
-impl<'a, M: Memory> OpenItems<'a, M> {
-    // The index of the first open invoice that asks for a payment from this payee.
-    fn find(&self, payment: Worded, payee: &[u8]) -> Option<usize>
-        ensures value { result ≡ position (asks_for (M.bytes self.now.mem.now) payment.amount payee.now) self.now.invoices.items }
-        ensures inside { IfSome result (λ index. index < length self.now.invoices.items) }
-    {
-        self.invoices
-            .iter()
-            .position(|invoice| asks(*invoice, self.mem, payment, payee))
-    }
+// The index of the first open invoice that asks for a payment from this payee.
+fn find_open<M: Memory>(
+    invoices: &[Invoice],
+    mem: &M,
+    payment: Worded,
+    payee: &[u8],
+) -> Option<usize>
+    ensures value { result ≡ position (asks_for (M.bytes mem.now) payment.amount payee.now) invoices.now }
+    ensures inside { IfSome result (λ index. index < length invoices.now) }
+{
+    invoices
+        .iter()
+        .position(|invoice| asks(*invoice, mem, payment, payee))
+}
 
-    // Pairs a payment with its invoice, which is then settled, or leaves it unmatched.
-    fn pair(&mut self, line: usize, payment: Worded, payee: &[u8]) -> Outcome
-        ensures memory { self.new.mem.now ≡ self.old.mem.now }
-        ensures paired { (result, self.new.invoices.items) ≡ pairing line payment self.old.invoices.items (position (asks_for (M.bytes self.old.mem.now) payment.amount payee.now) self.old.invoices.items) }
-    {
-        match self.find(payment, payee) {
-            Some(index) => {
-                self.invoices[index] = self.invoices[index].settled(line);
-                Outcome::Paired(payment, index)
-            }
-            None => Outcome::Unmatched(Record::Payment(payment)),
+// Pairs a payment with its invoice, which is then settled, or leaves it unmatched.
+fn pair<M: Memory>(
+    invoices: &mut Vec<Invoice>,
+    mem: &M,
+    line: usize,
+    payment: Worded,
+    payee: &[u8],
+) -> Outcome
+    ensures { (result, invoices.new.items) ≡ pairing line payment invoices.old.items (position (asks_for (M.bytes mem.now) payment.amount payee.now) invoices.old.items) }
+{
+    match find_open(invoices.as_slice(), mem, payment, payee) {
+        Some(index) => {
+            invoices[index] = invoices[index].settled(line);
+            Outcome::Paired(payment, index)
         }
+        None => Outcome::Unmatched(Record::Payment(payment)),
     }
+}
 
+// What becomes of the statement line of an index, with this text, where these are the invoices of a memory.
+pub fn judge<M: Memory>(
+    index: usize,
+    line: Line,
+    text: &[u8],
+    invoices: &mut Vec<Invoice>,
+    mem: &M,
+) -> Outcome
+    ensures { (result, invoices.new.items) ≡ judged (M.bytes mem.now) index line text.now invoices.old.items }
+{
+    match if_ended(line, text, parse_record(text)) {
+        Ok(Record::Payment(payment)) => {
+            let payee = part_of(text, payment.text);
+            pair(invoices, mem, index, payment, payee)
+        }
+        Ok(said) => Outcome::Unmatched(said),
+        Err(malformed) => Outcome::Unreadable(malformed),
+    }
+}
+
+impl<'a, M: Memory> OpenItems<'a, M> {
     // What becomes of the statement line of an index, with this text.
     pub fn judge(&mut self, index: usize, line: Line, text: &[u8]) -> Outcome
         ensures memory { self.new.mem.now ≡ self.old.mem.now }
         ensures judged { (result, self.new.invoices.items) ≡ judged (M.bytes self.old.mem.now) index line text.now self.old.invoices.items }
     {
-        match if_ended(line, text, parse_record(text)) {
-            Ok(Record::Payment(payment)) => self.pair(index, payment, part_of(text, payment.text)),
-            Ok(said) => Outcome::Unmatched(said),
-            Err(malformed) => Outcome::Unreadable(malformed),
-        }
+        judge(index, line, text, &mut self.invoices, self.mem)
     }
 }
 
