@@ -1,2 +1,2 @@
-mod LineLaws
-mod Spans
+pub mod LineLaws
+pub mod Spans

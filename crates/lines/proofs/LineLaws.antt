@@ -25,7 +25,7 @@ inside_from n s p (x ∷ xs) h e =
     (λ _. All-cons (Within n) (line s p true) _ (omega arith) (inside_from n (p + 1) (p + 1) xs (omega arith) (omega arith)))
     (λ _. inside_from n s (p + 1) xs (omega arith) (omega arith))
 
-lines_inside : (xs : List ℕ) → All (λ l. l.span.start + l.span.length ≤ length xs) (lines_of xs)
+pub lines_inside : (xs : List ℕ) → All (λ l. l.span.start + l.span.length ≤ length xs) (lines_of xs)
 lines_inside xs = inside_from (length xs) 0 0 xs (omega arith) (omega arith)
 
 ended_more : (l : Line) (ls : List Line) → l.ended ≡ true → EndedButLast ls → EndedButLast (l ∷ ls)
