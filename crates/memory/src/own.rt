@@ -36,6 +36,7 @@ impl Memory for OwnMemory {
         read_cell(&self.cells, position)
     }
 
+    #[tactic(auto, using(crate::proofs::Owned::all_of_own))]
     fn put(&mut self, position: u32, byte: u8) -> Result<(), MemoryFault> {
         put_cell(&mut self.cells, position, byte)
     }
