@@ -18,14 +18,14 @@ impl Table {
     pub fn tally(&self) -> Tally
         ensures { result ≡ tally_of self.now }
     {
-        let mut live_handles = 0;
+        let mut live_handles: u8 = 0;
         for handle in &self.handles {
             if !handle.is_vacant() {
                 live_handles += 1;
             }
         }
-        let mut live_blocks = 0;
-        let mut bytes = 0;
+        let mut live_blocks: u8 = 0;
+        let mut bytes: u64 = 0;
         for row in &self.blocks {
             if let BlockRow::Live(block) = row {
                 live_blocks += 1;
