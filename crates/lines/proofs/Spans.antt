@@ -1,7 +1,5 @@
 -- The bytes of a span.
-use Rattle.std.proofs.Common.{◌≡◌, ℕ, zero, suc, ◌==◌, ◌&&◌, [], ◌∷◌, bytes_eq, zip, refl, ◌+◌, ◌-◌, ◌<◌, min, List, map, length, get_or, take, drop, sym, ap, ◌∙◌, ⊎_elim, arith, length-drop, length-take, get_or-drop, get_or-take, take_all}
-use Rattle.std.proofs.lemmas.List.{nil_from_length}
-use Rattle.std.proofs.lemmas.Bool.{cases_lt}
+use Rattle.std.proofs.Common.{◌≡◌, ℕ, zero, suc, ◌==◌, ◌&&◌, [], ◌∷◌, bytes_eq, zip, refl, ◌+◌, ◌-◌, ◌<◌, min, List, map, length, get_or, drop, sym, ap, ◌∙◌, arith, length-drop, length-take, get_or-drop, get_or-take}
 use Rattle.std.specs.List.{list_all, range_with_len}
 use Rattle.std.proofs.lemmas.List.FromFn.{fill_by_all}
 use Rattle.lines.specs.Spans.{span_bytes}
@@ -24,17 +22,3 @@ same_at_indices f a zero [] e = refl
 same_at_indices f a zero (y ∷ ys) e = absurd (omega arith)
 same_at_indices f a (suc n) [] e = absurd (omega arith)
 same_at_indices f a (suc n) (y ∷ ys) e = ap (λ rest. (f a == y) && rest) (same_at_indices f (a + 1) n ys (omega arith))
-
--- a part that is cut to what the list has
-module _ (xs : List ℕ) (s n i m : ℕ) (start : i ≡ min s (length xs)) (count : m ≡ min n (length xs - i)) where
-  pub cut_to_list : take m (drop i xs) ≡ take n (drop s xs)
-  cut_to_list =
-      ⊎_elim
-      (λ inside. ap (λ k. take m (drop k xs)) (omega arith) ∙ ⊎_elim
-      (λ short. ap (λ k. take k (drop s xs)) (omega (arith, length-drop s xs)))
-      (λ long. take_all m (drop s xs) (omega (arith, length-drop s xs)) ∙ sym (take_all n (drop s xs) (omega (arith, length-drop s xs))))
-      (cases_lt n (length (drop s xs))))
-      (λ past.
-      nil_from_length (take m (drop i xs)) (omega (arith, length-take m (drop i xs), length-drop i xs))
-      ∙ sym (nil_from_length (take n (drop s xs)) (omega (arith, length-take n (drop s xs), length-drop s xs))))
-      (cases_lt s (length xs))

@@ -32,6 +32,7 @@ impl Memory for OwnMemory {
         4096
     }
 
+    #[tactic(auto, using(crate::proofs::Owned::all_of_own))]
     fn read(&self, position: u32) -> Result<u8, MemoryFault> {
         read_cell(&self.cells, position)
     }
